@@ -1,0 +1,100 @@
+-- 01, "Checked examples": the twelve, with rows enough, as a list and one test. `proofs/Examples` proves that all pass.
+use Prim.Native.Nat.{ℕ}
+use mathlib.Core.Bool.{Bool, true, false, _&&_}
+use mathlib.Core.List.{List, [], _∷_, _++_}
+use lib.ListN.{length, getD, replicate}
+use lib.Dec.{eqb}
+use Rattle.format.specs.Conditions.{same}
+use Rattle.format.specs.Outcome.{Outcome, fault, done, _>>=_}
+use Rattle.format.specs.Tokens.{Forest}
+use Rattle.format.specs.Rows.{allWords}
+use Rattle.format.specs.Addresses.{Region, packedSlot, tableSlot}
+use Rattle.format.specs.HouseForm.{house}
+use Rattle.format.specs.Panel.{readWhole}
+
+-- what an example says of a message: its refusal's number and place; that it is accepted; its rows, whole; the place and the byte
+-- of an index of the packed array at row 0; the place of a record of a leaf of the table at row 0; its house form
+pub data Claim : Type 0 where
+  refused : ℕ → ℕ → Claim
+  accepted : Claim
+  listed : List ℕ → Claim
+  element : List ℕ → ℕ → ℕ → Claim
+  field : ℕ → ℕ → ℕ → Claim
+  rewritten : List ℕ → Claim
+
+pub record Example : Type 0 where
+  pub message : List ℕ
+  pub claim : Claim
+
+-- a slot that starts at a place
+unfoldable pub startsAt : ℕ → Outcome Region → Bool
+startsAt place (fault n p) = false
+startsAt place (done s) = eqb (s .first) place
+
+-- what is claimed of a message that is accepted
+unfoldable pub holds : List ℕ → Forest → Claim → Bool
+holds m f (refused n p) = false
+holds m f accepted = true
+holds m f (listed words) = same (allWords f) words
+holds m f (element is place b) =
+    startsAt place (packedSlot (allWords f) (length m) 0 is) && eqb (getD m place 0) b
+holds m f (field leafRow number place) =
+    startsAt place (tableSlot (allWords f) (length m) 0 leafRow (number ∷ []))
+holds m f (rewritten bytes) = same (house m f) bytes
+
+-- what is claimed of a message that is refused
+unfoldable pub refusedAs : ℕ → ℕ → Claim → Bool
+refusedAs n p (refused k q) = eqb n k && eqb p q
+refusedAs n p accepted = false
+refusedAs n p (listed words) = false
+refusedAs n p (element is place b) = false
+refusedAs n p (field leafRow number place) = false
+refusedAs n p (rewritten bytes) = false
+
+unfoldable pub meets : Outcome Forest → Example → Bool
+meets (fault n p) e = refusedAs n p (e .claim)
+meets (done f) e = holds (e .message) f (e .claim)
+
+-- the test
+unfoldable pub allMeet : List Example → Bool
+allMeet [] = true
+allMeet (e ∷ es) = meets (readWhole (e .message)) e && allMeet es
+
+-- examples 9 and 10, and both layouts of example 12, up to their payload
+abbrev pub slowest : List ℕ
+slowest = 0x5B ∷ 0x24 ∷ 0x55 ∷ 0x23 ∷ 0x5B ∷ 0x69 ∷ 0x02 ∷ 0x69 ∷ 0x03 ∷ 0x5D ∷ []
+
+abbrev pub wrapped : List ℕ
+wrapped = 0x5B ∷ 0x24 ∷ 0x55 ∷ 0x23 ∷ 0x5B ∷ 0x5B ∷ 0x69 ∷ 0x02 ∷ 0x69 ∷ 0x03 ∷ 0x5D ∷ 0x5D ∷ []
+
+abbrev pub tableOf : ℕ → List ℕ
+tableOf opening = opening ∷ 0x24 ∷ 0x7B ∷ 0x55 ∷ 0x01 ∷ 0x61 ∷ 0x55 ∷ 0x55 ∷ 0x01 ∷ 0x62 ∷ 0x54 ∷ 0x7D ∷ 0x23 ∷ 0x55 ∷ 0x02 ∷ []
+
+-- example 12's rows
+abbrev pub tableRows : List ℕ
+tableRows =
+    8 ∷ 91 ∷ 0 ∷ 15 ∷ 4 ∷ 2 ∷ 6 ∷ 0
+    ∷ 10 ∷ 123 ∷ 2 ∷ 0 ∷ 2 ∷ 2 ∷ 6 ∷ 0
+    ∷ 4 ∷ 83 ∷ 3 ∷ 5 ∷ 1 ∷ 0 ∷ 3 ∷ 0
+    ∷ 9 ∷ 85 ∷ 6 ∷ 0 ∷ 1 ∷ 0 ∷ 4 ∷ 0
+    ∷ 4 ∷ 83 ∷ 7 ∷ 9 ∷ 1 ∷ 0 ∷ 5 ∷ 0
+    ∷ 9 ∷ 84 ∷ 10 ∷ 1 ∷ 1 ∷ 0 ∷ 6 ∷ 0 ∷ []
+
+-- 1 to 12, of which 8 and 12 have two each
+abbrev pub examples : List Example
+examples =
+    record { message = []; claim = refused 2 0 }
+    ∷ record { message = 0x5A ∷ []; claim = listed (1 ∷ 90 ∷ 0 ∷ 1 ∷ 0 ∷ 0 ∷ 1 ∷ 0 ∷ []) }
+    ∷ record { message = 0x4E ∷ 0x4E ∷ []; claim = refused 2 2 }
+    ∷ record { message = 0x5A ∷ 0x5A ∷ []; claim = refused 9 1 }
+    ∷ record { message = 0x53 ∷ 0x69 ∷ 0xFF ∷ []; claim = refused 6 1 }
+    ∷ record { message = 0x43 ∷ 0x80 ∷ []; claim = refused 4 1 }
+    ∷ record { message = 0x5B ∷ 0x24 ∷ 0x64 ∷ 0x5D ∷ []; claim = refused 3 3 }
+    ∷ record { message = replicate 33 0x5B; claim = refused 7 32 }
+    ∷ record { message = replicate 32 0x5B ++ replicate 32 0x5D; claim = accepted }
+    ∷ record { message = slowest ++ 1 ∷ 2 ∷ 3 ∷ 4 ∷ 5 ∷ 6 ∷ []; claim = element (1 ∷ 0 ∷ []) 13 4 }
+    ∷ record { message = wrapped ++ 1 ∷ 2 ∷ 3 ∷ 4 ∷ 5 ∷ 6 ∷ []; claim = element (1 ∷ 0 ∷ []) 13 2 }
+    ∷ record { message = 0x5B ∷ 0x5D ∷ []; claim = rewritten (0x5B ∷ 0x23 ∷ 0x55 ∷ 0x00 ∷ []) }
+    ∷ record { message = tableOf 0x5B ++ 0x05 ∷ 0x54 ∷ 0x06 ∷ 0x46 ∷ []; claim = listed tableRows }
+    ∷ record { message = tableOf 0x7B ++ 0x05 ∷ 0x06 ∷ 0x54 ∷ 0x46 ∷ []; claim = field 5 1 18 }
+    ∷ []
