@@ -1,0 +1,5 @@
+pub mod Examples
+pub mod Noops
+pub mod MarkFacts
+pub mod Little
+pub mod IntegerCases

@@ -1,0 +1,3 @@
+// The format that document 01 sets out: its definitions are in specs/; here are the mark type and the types of the answers.
+pub mod answers;
+pub mod marks;

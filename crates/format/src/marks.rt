@@ -1,0 +1,317 @@
+// The marks. The bytes that go with a mark are said once, in `Mark::traits`, and used by all.
+ghost use mathlib.Core.Path.{_≡_};
+ghost use Rattle.format.specs.Marks.{isInteger, isSigned, isType, isScalar, isPlainLeaf, width, leafWidth};
+ghost use Rattle.format.specs.Traits.{traitsOf};
+
+// The letters.
+pub const NULL: u8 = b'Z';
+
+pub const TRUE: u8 = b'T';
+
+pub const FALSE: u8 = b'F';
+
+pub const INT8: u8 = b'i';
+
+pub const UINT8: u8 = b'U';
+
+pub const INT16: u8 = b'I';
+
+pub const UINT16: u8 = b'u';
+
+pub const INT32: u8 = b'l';
+
+pub const UINT32: u8 = b'm';
+
+pub const INT64: u8 = b'L';
+
+pub const UINT64: u8 = b'M';
+
+pub const HALF: u8 = b'h';
+
+pub const SINGLE: u8 = b'd';
+
+pub const DOUBLE: u8 = b'D';
+
+pub const CHAR: u8 = b'C';
+
+pub const BYTE: u8 = b'B';
+
+pub const TEXT: u8 = b'S';
+
+pub const HIGH_PRECISION: u8 = b'H';
+
+pub const NOOP: u8 = b'N';
+
+pub const COUNT: u8 = b'#';
+
+pub const TYPE: u8 = b'$';
+
+pub const ARRAY: u8 = b'[';
+
+pub const ARRAY_END: u8 = b']';
+
+pub const OBJECT: u8 = b'{';
+
+pub const OBJECT_END: u8 = b'}';
+
+// A mark is a byte: the code of its letter.
+pub struct Mark(pub u8);
+
+// What goes with a mark: the bytes of its payload, and whether it is an integer's, a signed integer's, a typed container's and a
+// scalar's.
+pub struct Traits {
+    pub width: usize,
+    pub integer: bool,
+    pub signed: bool,
+    pub typed: bool,
+    pub scalar: bool,
+}
+
+// No mark of a value that is its mark and its payload.
+const OTHER: Traits = Traits {
+    width: 0,
+    integer: false,
+    signed: false,
+    typed: false,
+    scalar: false,
+};
+
+// Nothing is carried.
+const EMPTY: Traits = Traits {
+    width: 0,
+    integer: false,
+    signed: false,
+    typed: false,
+    scalar: true,
+};
+
+const SIGNED1: Traits = Traits {
+    width: 1,
+    integer: true,
+    signed: true,
+    typed: true,
+    scalar: true,
+};
+
+const SIGNED2: Traits = Traits {
+    width: 2,
+    integer: true,
+    signed: true,
+    typed: true,
+    scalar: true,
+};
+
+const SIGNED4: Traits = Traits {
+    width: 4,
+    integer: true,
+    signed: true,
+    typed: true,
+    scalar: true,
+};
+
+const SIGNED8: Traits = Traits {
+    width: 8,
+    integer: true,
+    signed: true,
+    typed: true,
+    scalar: true,
+};
+
+const UNSIGNED1: Traits = Traits {
+    width: 1,
+    integer: true,
+    signed: false,
+    typed: true,
+    scalar: true,
+};
+
+const UNSIGNED2: Traits = Traits {
+    width: 2,
+    integer: true,
+    signed: false,
+    typed: true,
+    scalar: true,
+};
+
+const UNSIGNED4: Traits = Traits {
+    width: 4,
+    integer: true,
+    signed: false,
+    typed: true,
+    scalar: true,
+};
+
+const UNSIGNED8: Traits = Traits {
+    width: 8,
+    integer: true,
+    signed: false,
+    typed: true,
+    scalar: true,
+};
+
+const OPAQUE1: Traits = Traits {
+    width: 1,
+    integer: false,
+    signed: false,
+    typed: true,
+    scalar: true,
+};
+
+const OPAQUE2: Traits = Traits {
+    width: 2,
+    integer: false,
+    signed: false,
+    typed: true,
+    scalar: true,
+};
+
+const OPAQUE4: Traits = Traits {
+    width: 4,
+    integer: false,
+    signed: false,
+    typed: true,
+    scalar: true,
+};
+
+const OPAQUE8: Traits = Traits {
+    width: 8,
+    integer: false,
+    signed: false,
+    typed: true,
+    scalar: true,
+};
+
+impl Mark {
+    pub const NULL: Mark = Mark(NULL);
+
+    pub const TRUE: Mark = Mark(TRUE);
+
+    pub const FALSE: Mark = Mark(FALSE);
+
+    pub const INT8: Mark = Mark(INT8);
+
+    pub const UINT8: Mark = Mark(UINT8);
+
+    pub const INT16: Mark = Mark(INT16);
+
+    pub const UINT16: Mark = Mark(UINT16);
+
+    pub const INT32: Mark = Mark(INT32);
+
+    pub const UINT32: Mark = Mark(UINT32);
+
+    pub const INT64: Mark = Mark(INT64);
+
+    pub const UINT64: Mark = Mark(UINT64);
+
+    pub const HALF: Mark = Mark(HALF);
+
+    pub const SINGLE: Mark = Mark(SINGLE);
+
+    pub const DOUBLE: Mark = Mark(DOUBLE);
+
+    pub const CHAR: Mark = Mark(CHAR);
+
+    pub const BYTE: Mark = Mark(BYTE);
+
+    pub const TEXT: Mark = Mark(TEXT);
+
+    pub const HIGH_PRECISION: Mark = Mark(HIGH_PRECISION);
+
+    pub const NOOP: Mark = Mark(NOOP);
+
+    pub const COUNT: Mark = Mark(COUNT);
+
+    pub const TYPE: Mark = Mark(TYPE);
+
+    pub const ARRAY: Mark = Mark(ARRAY);
+
+    pub const ARRAY_END: Mark = Mark(ARRAY_END);
+
+    pub const OBJECT: Mark = Mark(OBJECT);
+
+    pub const OBJECT_END: Mark = Mark(OBJECT_END);
+
+    pub fn traits(self) -> Traits
+        ensures { λ r. ⌜ r ≡ traitsOf (self .0) ⌝ }
+    {
+        let m = self.0;
+        match m {
+            NULL => EMPTY,
+            TRUE => EMPTY,
+            FALSE => EMPTY,
+            INT8 => SIGNED1,
+            UINT8 => UNSIGNED1,
+            INT16 => SIGNED2,
+            UINT16 => UNSIGNED2,
+            INT32 => SIGNED4,
+            UINT32 => UNSIGNED4,
+            INT64 => SIGNED8,
+            UINT64 => UNSIGNED8,
+            HALF => OPAQUE2,
+            SINGLE => OPAQUE4,
+            DOUBLE => OPAQUE8,
+            CHAR => OPAQUE1,
+            BYTE => OPAQUE1,
+            _ => OTHER,
+        }
+    }
+
+    // The bytes that go with the mark; 0 where none do.
+    pub fn width(self) -> usize
+        ensures { λ r. ⌜ r ≡ width (self .0) ⌝ }
+    {
+        self.traits().width
+    }
+
+    // A mark of an integer record.
+    pub fn is_integer(self) -> bool
+        ensures { λ r. ⌜ r ≡ isInteger (self .0) ⌝ }
+    {
+        self.traits().integer
+    }
+
+    pub fn is_signed(self) -> bool
+        ensures { λ r. ⌜ r ≡ isSigned (self .0) ⌝ }
+    {
+        self.traits().signed
+    }
+
+    // One of the thirteen marks of a typed container.
+    pub fn is_type(self) -> bool
+        ensures { λ r. ⌜ r ≡ isType (self .0) ⌝ }
+    {
+        self.traits().typed
+    }
+
+    pub fn is_scalar(self) -> bool
+        ensures { λ r. ⌜ r ≡ isScalar (self .0) ⌝ }
+    {
+        self.traits().scalar
+    }
+
+    // The bytes of a schema leaf: `T` has one in a record.
+    pub fn leaf_width(self) -> usize
+        ensures { λ r. ⌜ r ≡ leafWidth (self .0) ⌝ }
+    {
+        let m = self.0;
+        if m == TRUE {
+            return 1;
+        }
+        self.width()
+    }
+
+    // A schema leaf that is its mark alone.
+    pub fn is_plain_leaf(self) -> bool
+        ensures { λ r. ⌜ r ≡ isPlainLeaf (self .0) ⌝ }
+    {
+        let m = self.0;
+        if m == TRUE {
+            return true;
+        }
+        if m == NULL {
+            return true;
+        }
+        self.is_type()
+    }
+}
