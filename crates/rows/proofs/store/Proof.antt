@@ -1,0 +1,44 @@
+-- `store`: one test, and eight stores one after another. Assumes nothing.
+use native.Mathlib.Numerals.{unary-clauses}
+use native.Mathlib.Omega.{arith}
+use lib.ListN.{length-set}
+use borrow.Author.Needs.{needs}
+use borrow.Author.Tests.{lt-ltb, le-ltb}
+use Rattle.format.specs.Conditions.{if_then_else_}
+use Rattle.format.specs.Rows as Rows
+use Rattle.rows.specs.Row as Row
+use Rattle.rows.proofs.store.Statement.{statement}
+use Rattle.rows.proofs.store.Tie as tie
+
+pub store-spec : {M : Type 1} → statement M
+unfolding Row.store Rows.rowsIn Rows.layout if_then_else_
+store-spec =
+    tie.close
+    (tie.spec
+    (λ c. simp (le-ltb _ _ (c .if1 .taken)))
+    (λ c. search needs)
+    (λ c. search needs)
+    (λ c. search needs)
+    (λ c. search needs)
+    (λ c. search needs)
+    (λ c. simp length-set (omega arith))
+    (λ c. search needs)
+    (λ c. search needs)
+    (λ c. simp length-set (omega arith))
+    (λ c. search needs)
+    (λ c. search needs)
+    (λ c. simp length-set (omega arith))
+    (λ c. search needs)
+    (λ c. search needs)
+    (λ c. simp length-set (omega arith))
+    (λ c. search needs)
+    (λ c. search needs)
+    (λ c. simp length-set (omega arith))
+    (λ c. search needs)
+    (λ c. search needs)
+    (λ c. simp length-set (omega arith))
+    (λ c. search needs)
+    (λ c. search needs)
+    (λ c. simp length-set (omega arith))
+    (λ c. search needs)
+    (λ c. simp (lt-ltb _ _ (c .if1 .left), unary-clauses)))

@@ -1,0 +1,80 @@
+// Lent memory: the row table, which is 32-bit words, eight to a row, and bytes.
+ghost use mathlib.Core.Path.{_≡_};
+ghost use Prim.Native.Nat.{_<_, _^_};
+ghost use lib.ListN.{length};
+ghost use Rattle.format.specs.Rows.{rowsIn, word as wordIn, zeros};
+ghost use Rattle.rows.specs.Row.{rowOf, store as storeIn};
+
+// A row: its words by name, in their order.
+pub struct Row {
+    pub kind: u32,
+    pub mark: u32,
+    pub first: u32,
+    pub payload: u32,
+    pub extent: u32,
+    pub count: u32,
+    pub link: u32,
+    pub order: u32,
+}
+
+// How many rows the table has.
+pub fn count(rows: &[u32]) -> usize
+    ensures { λ r. ⌜ r ≡ rowsIn (now (rows .entry)) ⌝ }
+{
+    rows.len() / 8
+}
+
+// Word k of a row; 0 past the table's end.
+pub fn word(rows: &[u32], row: usize, k: usize) -> usize
+    ensures is { λ r. ⌜ r ≡ wordIn (now (rows .entry)) row k ⌝ }
+    ensures narrow { λ r. ⌜ r < 2 ^ 32 ⌝ }
+{
+    if rows.len() / 8 < row {
+        return 0;
+    }
+    let at = row * 8;
+    if rows.len() - at <= k {
+        return 0;
+    }
+    rows[at + k] as usize
+}
+
+// Stores a row whole, or nothing where the table has no such row.
+pub fn store(rows: &mut [u32], row: usize, r: Row)
+    ensures { λ _. ⌜ now (rows .exit) ≡ storeIn (now (rows .entry)) row (rowOf r) ⌝ }
+{
+    if rows.len() / 8 <= row {
+        return;
+    }
+    let at = row * 8;
+    rows[at] = r.kind;
+    rows[at + 1] = r.mark;
+    rows[at + 2] = r.first;
+    rows[at + 3] = r.payload;
+    rows[at + 4] = r.extent;
+    rows[at + 5] = r.count;
+    rows[at + 6] = r.link;
+    rows[at + 7] = r.order;
+}
+
+// Zeros every word, a remainder's too.
+pub fn clear(rows: &mut [u32])
+    ensures { λ _. ⌜ now (rows .exit) ≡ zeros (length (now (rows .entry))) ⌝ }
+{
+    let mut i = 0;
+    while i < rows.len() {
+        rows[i] = 0;
+        i += 1;
+    }
+}
+
+// Zeros every byte.
+pub fn clear_bytes(output: &mut [u8])
+    ensures { λ _. ⌜ now (output .exit) ≡ zeros (length (now (output .entry))) ⌝ }
+{
+    let mut i = 0;
+    while i < output.len() {
+        output[i] = 0;
+        i += 1;
+    }
+}
