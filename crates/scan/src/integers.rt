@@ -10,7 +10,7 @@ ghost use Rattle.format.specs.Integers.{isNegative, number as numberIn, integer
 ghost use Rattle.scan.specs.Numbers.{littleAt, parsed, Bounded};
 
 // The highest length, count or dimension.
-const LIMIT: u32 = 1_048_576;
+pub const LIMIT: u32 = 1_048_576;
 
 // The little-endian number of the `width` bytes from `at` on; 0 where they aren't all there, or are more than eight.
 pub fn little_endian(message: &[u8], at: usize, width: usize) -> u64

@@ -1,0 +1,123 @@
+-- Rows stored one after another: in any order, one run after another, and over zeros. Assumes nothing.
+use mathlib.Core.Path.{_≡_, refl, sym, ap, _∙_}
+use mathlib.Core.Bool.{Bool, true, false}
+use mathlib.Core.List.{List, [], _∷_, _++_}
+use Prim.Native.Nat.{ℕ, zero, suc, _+_, _-_, _*_, _/_, _<_, _≤_}
+use native.Mathlib.Omega.{arith}
+use native.Mathlib.Nat.{zero-add, sub-zero, zero-sub, suc-sub-suc}
+use lib.ListN.{length, set, drop, length-append, length-replicate}
+use lib.Seq.{sets, set-comm, length-sets, sets-eq}
+use lib.Dec.{ltb}
+use borrow.Author.Tests.{lt-ltb}
+use Rattle.format.specs.Conditions.{if_then_else_}
+use Rattle.format.specs.Rows.{Row, layout, rowsIn, wordsOf, zeros, filled}
+use Rattle.rows.specs.Row.{store}
+use Rattle.rows.specs.Overlay.{lay}
+
+-- ---- runs of stores at other places
+
+set-sets : (b l : List ℕ) (i j x : ℕ) → j < i → set (sets l i b) j x ≡ sets (set l j x) i b
+set-sets [] l i j x h = refl
+set-sets (y ∷ b) l i j x h =
+    set-sets b (set l i y) (suc i) j x (omega arith) ∙ ap (λ t. sets t (suc i) b) (set-comm l i j y x (omega arith))
+
+sets-comm : (a b l : List ℕ) (i j : ℕ) → i + length a ≤ j → sets (sets l j b) i a ≡ sets (sets l i a) j b
+sets-comm [] b l i j h = refl
+sets-comm (x ∷ a) b l i j h =
+    ap (λ t. sets t (suc i) a) (set-sets b l j i x (omega arith)) ∙ sets-comm a b (set l i x) (suc i) j (omega arith)
+
+sets-append : (a b l : List ℕ) (i : ℕ) → sets (sets l i a) (i + length a) b ≡ sets l i (a ++ b)
+sets-append [] b l i = ap (λ j. sets l j b) (omega arith)
+sets-append (x ∷ a) b l i =
+    ap (λ j. sets (sets (set l i x) (suc i) a) j b) (omega arith) ∙ sets-append a b (set l i x) (suc i)
+
+-- ---- one row, stored or not
+
+put : Bool → List ℕ → ℕ → Row → List ℕ
+put b ws i r = if b then sets ws (i * 8) (layout r) else ws
+
+length-put : (b : Bool) (ws : List ℕ) (i : ℕ) (r : Row) → length (put b ws i r) ≡ length ws
+unfolding put if_then_else_
+length-put true ws i r = length-sets ws (i * 8) (layout r)
+length-put false ws i r = refl
+
+pub length-store : (ws : List ℕ) (i : ℕ) (r : Row) → length (store ws i r) ≡ length ws
+unfolding store put
+length-store ws i r = length-put (ltb i (rowsIn ws)) ws i r
+
+put-comm : (b c : Bool) (ws : List ℕ) (i j : ℕ) (r s : Row) → i < j → put b (put c ws j s) i r ≡ put c (put b ws i r) j s
+unfolding put if_then_else_ layout
+put-comm true true ws i j r s h = sets-comm (layout r) (layout s) ws (i * 8) (j * 8) (omega arith)
+put-comm true false ws i j r s h = refl
+put-comm false true ws i j r s h = refl
+put-comm false false ws i j r s h = refl
+
+-- two rows, in either order
+store-comm : (ws : List ℕ) (i j : ℕ) (r s : Row) → i < j → store (store ws j s) i r ≡ store (store ws i r) j s
+unfolding store put rowsIn
+store-comm ws i j r s h =
+    rw (length-put (ltb j (rowsIn ws)) ws j s, length-put (ltb i (rowsIn ws)) ws i r)
+    (put-comm (ltb i (rowsIn ws)) (ltb j (rowsIn ws)) ws i j r s h)
+
+-- ---- rows one after another
+
+pub length-lay : (ws : List ℕ) (i : ℕ) (rs : List Row) → length (lay ws i rs) ≡ length ws
+unfolding lay
+length-lay ws i [] = refl
+length-lay ws i (r ∷ rs) = length-lay (store ws i r) (suc i) rs ∙ length-store ws i r
+
+-- one run after another is one run
+pub lay-append : (ws : List ℕ) (i : ℕ) (a b : List Row) → lay (lay ws i a) (i + length a) b ≡ lay ws i (a ++ b)
+unfolding lay
+lay-append ws i [] b = ap (λ k. lay ws k b) (omega arith)
+lay-append ws i (r ∷ a) b =
+    ap (λ k. lay (lay (store ws i r) (suc i) a) k b) (omega arith) ∙ lay-append (store ws i r) (suc i) a b
+
+store-lay : (ws : List ℕ) (i j : ℕ) (r : Row) (b : List Row) → i < j → store (lay ws j b) i r ≡ lay (store ws i r) j b
+unfolding lay
+store-lay ws i j r [] h = refl
+store-lay ws i j r (s ∷ b) h = store-lay (store ws j s) i (suc j) r b (omega arith) ∙ ap (λ t. lay t (suc j) b) (store-comm ws i j r s h)
+
+-- a container's row, stored after those below it
+pub lay-front : (ws : List ℕ) (i : ℕ) (r : Row) (b : List Row) → store (lay ws (suc i) b) i r ≡ lay ws i (r ∷ b)
+unfolding lay
+lay-front ws i r b = store-lay ws i (suc i) r b (omega arith)
+
+-- ---- a table that has room for all
+
+store-there : (ws : List ℕ) (i : ℕ) (r : Row) → (i + 1) * 8 ≤ length ws → store ws i r ≡ sets ws (i * 8) (layout r)
+unfolding store rowsIn if_then_else_
+store-there ws i r h = rw (lt-ltb i (length ws / 8) (omega arith))
+
+length-layout : (r : Row) → length (layout r) ≡ 8
+unfolding layout
+length-layout r = refl
+
+lay-there : (ws : List ℕ) (i : ℕ) (rs : List Row) → (i + length rs) * 8 ≤ length ws → lay ws i rs ≡ sets ws (i * 8) (wordsOf rs)
+unfolding lay wordsOf
+lay-there ws i [] h = refl
+lay-there ws i (r ∷ rs) h =
+    lay-there (store ws i r) (suc i) rs (rw (length-store ws i r) (omega arith))
+    ∙ ap (λ t. sets t (suc i * 8) (wordsOf rs)) (store-there ws i r (omega arith))
+    ∙ ap (λ k. sets (sets ws (i * 8) (layout r)) k (wordsOf rs)) (omega (arith, length-layout r))
+    ∙ sets-append (layout r) (wordsOf rs) ws (i * 8)
+
+length-words : (rs : List Row) → length (wordsOf rs) ≡ length rs * 8
+unfolding wordsOf
+length-words [] = refl
+length-words (r ∷ rs) = length-append (layout r) (wordsOf rs) ∙ omega (arith, length-layout r, length-words rs)
+
+drop-zeros : (n l : ℕ) → drop n (zeros l) ≡ zeros (l - n)
+drop-zeros zero l = ap (λ k. zeros k) (sym (sub-zero l))
+drop-zeros (suc n) zero = ap (λ k. zeros k) (sym (zero-sub (suc n)))
+drop-zeros (suc n) (suc l) = drop-zeros n l ∙ ap (λ k. zeros k) (sym (suc-sub-suc l n))
+
+-- over zeros they are what is filled
+pub lay-zeros : (n : ℕ) (rs : List Row) → length rs * 8 ≤ n → lay (zeros n) 0 rs ≡ filled n (wordsOf rs)
+unfolding filled
+lay-zeros n rs h =
+    let w = length-words rs in
+    let z = length-replicate {A = ℕ} n 0 in
+    lay-there (zeros n) 0 rs (omega arith)
+    ∙ sets-eq (wordsOf rs) (zeros n) 0 (omega arith)
+    ∙ ap (λ t. wordsOf rs ++ t) (ap (λ k. drop k (zeros n)) (zero-add (length (wordsOf rs))) ∙ drop-zeros (length (wordsOf rs)) n)

@@ -1,0 +1,127 @@
+-- A loop over tokens, whatever they are: what was read so far lies in the words, and the whole is that and what remains. One law
+-- each for the start, a step, a fault and the end serves every loop. Assumes nothing.
+use Prim.Native.Nat.{ℕ, suc, _+_}
+use mathlib.Core.Path.{_≡_, refl, sym, ap, _∙_}
+use mathlib.Core.List.{List, [], _∷_, _++_, append-assoc, append-nil}
+use native.Mathlib.Omega.{arith}
+use native.Mathlib.Nat.{add-zero}
+use lib.ListN.{length, length-append}
+use Rattle.format.specs.Conditions.{if_then_else_}
+use Rattle.format.specs.Outcome.{Parsed, fault, done, _>>=_}
+use Rattle.format.specs.Tokens.{Token, Forest, none, node, size, _⊕_, members}
+use Rattle.format.specs.Rows.{rows}
+use Rattle.format.specs.Sequences.{Reader, _⨾_}
+use Rattle.rows.specs.Overlay.{lay}
+use Rattle.rows.proofs.Overlay.{lay-append}
+use Rattle.tokens.specs.Answers.{Laid}
+
+-- ---- one forest and then another
+
+pub size-append : (f g : Forest) → size (f ⊕ g) ≡ size f + size g
+unfolding size _⊕_
+size-append none g = omega arith
+size-append (node t below after) g = let e = size-append after g in omega arith
+
+pub members-append : (f g : Forest) → members (f ⊕ g) ≡ members f + members g
+unfolding members _⊕_
+members-append none g = omega arith
+members-append (node t below after) g = let e = members-append after g in omega arith
+
+pub append-none : (f : Forest) → f ⊕ none ≡ f
+unfolding _⊕_
+append-none none = refl
+append-none (node t below after) = rw (append-none after)
+
+⊕-assoc : (f g h : Forest) → (f ⊕ g) ⊕ h ≡ f ⊕ (g ⊕ h)
+unfolding _⊕_
+⊕-assoc none g h = refl
+⊕-assoc (node t below after) g h = rw (⊕-assoc after g h)
+
+pub length-rows : (n : ℕ) (f : Forest) → length (rows n f) ≡ size f
+unfolding rows size
+length-rows n none = refl
+length-rows n (node t below after) =
+    ap suc (length-append (rows (suc n) below) _ ∙ simp (length-rows (suc n) below, length-rows (suc n + size below) after))
+
+pub rows-append : (n : ℕ) (f g : Forest) → rows n (f ⊕ g) ≡ rows n f ++ rows (n + size f) g
+unfolding rows size _⊕_
+rows-append n none g = rw add-zero
+rows-append n (node t below after) g =
+    let e : suc n + size below + size after ≡ n + suc (size below + size after) = omega arith in
+    simp (rows-append (suc n + size below) after g, e, append-assoc)
+
+-- the rows of one forest and then those of another
+pub lay-forest : (ws : List ℕ) (row : ℕ) (f g : Forest) → lay (lay ws row (rows row f)) (row + size f) (rows (row + size f) g) ≡ lay ws row (rows row (f ⊕ g))
+lay-forest ws row f g =
+    ap (λ k. lay (lay ws row (rows row f)) (row + k) (rows (row + size f) g)) (sym (length-rows row f))
+    ∙ lay-append ws row (rows row f) (rows (row + size f) g)
+    ∙ ap (λ l. lay ws row l) (sym (rows-append row f g))
+
+-- ---- what remains
+
+-- a forest, and then what remains to be read
+unfoldable pub onto : Forest → Parsed Forest → Parsed Forest
+onto f o = o >>= (λ r. done (f ⊕ r .0, r .1))
+
+onto-none : (o : Parsed Forest) → onto none o ≡ o
+unfolding onto _>>=_ _⊕_
+onto-none (fault n p) = refl
+onto-none (done r) = refl
+
+onto-onto : (f g : Forest) (o : Parsed Forest) → onto f (onto g o) ≡ onto (f ⊕ g) o
+unfolding onto _>>=_
+onto-onto f g (fault n p) = refl
+onto-onto f g (done r) = rw (⊕-assoc f g (r .0))
+
+-- one is read, and another remains
+pub seq-read : (item rest : Reader) (at row next : ℕ) (f : Forest) → item at row ≡ done (f, next) → (item ⨾ rest) at row ≡ onto f (rest next (row + size f))
+unfolding _⨾_ _>>=_ onto
+seq-read item rest at row next f e = rw e
+
+pub seq-fault : (item rest : Reader) (at row n p : ℕ) → item at row ≡ fault n p → (item ⨾ rest) at row ≡ fault n p
+unfolding _⨾_ _>>=_
+seq-fault item rest at row n p e = rw e
+
+pub record Sofar (whole : Parsed Forest) (first : ℕ) (before : List ℕ) (remains : Parsed Forest) (row count : ℕ) (now : List ℕ) : Type 0 where
+  pub forest : Forest
+  pub is : whole ≡ onto forest remains
+  pub counted : members forest ≡ count
+  pub took : row ≡ first + size forest
+  pub lie : now ≡ lay before first (rows first forest)
+
+-- nothing is read yet
+pub sofar-start : (o : Parsed Forest) (first : ℕ) (before : List ℕ) → Sofar o first before o first 0 before
+unfolding size members rows lay
+sofar-start o first before = record { forest = none; is = sym (onto-none o); counted = refl; took = omega arith; lie = refl }
+
+module _ {whole : Parsed Forest} {first : ℕ} {before : List ℕ} {remains : Parsed Forest} {row count : ℕ} {now : List ℕ}
+    (s : Sofar whole first before remains row count now) where
+  -- what remains is said otherwise
+  pub sofar-as : (o : Parsed Forest) → remains ≡ o → Sofar whole first before o row count now
+  sofar-as o e = record { forest = s .forest; is = rw e at (s .is); counted = s .counted; took = s .took; lie = s .lie }
+
+  -- one more is read
+  pub sofar-step : (item rest : Reader) (at next row′ k : ℕ) (after : List ℕ) → remains ≡ (item ⨾ rest) at row → Laid (item at row) row k now after next row′
+      → Sofar whole first before (rest next row′) row′ (count + k) after
+  sofar-step item rest at next row′ k after e l =
+      let f = s .forest in
+      let g = l .forest in
+      let q : remains ≡ onto g (rest next (row + size g)) = e ∙ seq-read item rest at row next g (l .read) in
+      record {
+        forest = f ⊕ g;
+        is = s .is ∙ rw (q, ← l .took) (onto-onto f g (rest next row′));
+        counted = members-append f g ∙ omega (arith, s .counted, l .counted);
+        took = omega (arith, s .took, l .took, size-append f g);
+        lie = l .lie ∙ rw (s .lie, s .took) (lay-forest before first f g);
+      }
+
+  -- one more is refused
+  pub sofar-fault : (n p : ℕ) → remains ≡ fault n p → whole ≡ fault n p
+  unfolding onto _>>=_
+  sofar-fault n p e = s .is ∙ rw e
+
+  -- there is no more
+  pub sofar-end : (end : ℕ) → remains ≡ done (none, end) → Laid whole first count before now end row
+  unfolding onto _>>=_
+  sofar-end end e =
+      record { forest = s .forest; read = s .is ∙ rw (e, append-none (s .forest)); counted = s .counted; took = s .took; lie = s .lie }

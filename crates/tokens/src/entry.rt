@@ -1,0 +1,64 @@
+// A token's row.
+use format::answers::Kind;
+use rows::Row;
+use rows::store;
+ghost use mathlib.Core.Path.{_≡_};
+ghost use Rattle.format.specs.Tokens.{kindNumber};
+ghost use Rattle.format.specs.Answers.{kindOf};
+ghost use Rattle.format.specs.Rows.{rowOf};
+ghost use Rattle.rows.specs.Row.{store as storeIn};
+ghost use Rattle.tokens.specs.Answers.{Narrow, tokenOf};
+
+// A token: its row's words but the link.
+pub struct Entry {
+    pub kind: Kind,
+    pub mark: u8,
+    pub first: usize,
+    pub payload: usize,
+    pub extent: usize,
+    pub count: usize,
+    pub order: u32,
+}
+
+// The number of a kind.
+fn kind_number(kind: Kind) -> u32
+    ensures { λ r. ⌜ r ≡ kindNumber (kindOf kind) ⌝ }
+{
+    match kind {
+        Kind::Scalar => 1,
+        Kind::Text => 2,
+        Kind::HighPrecision => 3,
+        Kind::Key => 4,
+        Kind::Array => 5,
+        Kind::Object => 6,
+        Kind::Packed => 7,
+        Kind::Table => 8,
+        Kind::Leaf => 9,
+        Kind::SchemaRecord => 10,
+        Kind::FixedArray => 11,
+        Kind::Dimension => 12,
+    }
+}
+
+// Stores a token's row, with its link.
+pub fn put(rows: &mut [u32], row: usize, e: Entry, link: usize)
+    requires { ⌜ Narrow e link ⌝ }
+    ensures { λ _. ⌜ now (rows .exit) ≡ storeIn (now (rows .entry)) row (rowOf (tokenOf e) link) ⌝ }
+{
+    let k = e.kind;
+    let kind = kind_number(k);
+    store(
+        rows,
+        row,
+        Row {
+            kind: kind,
+            mark: e.mark as u32,
+            first: e.first as u32,
+            payload: e.payload as u32,
+            extent: e.extent as u32,
+            count: e.count as u32,
+            link: link as u32,
+            order: e.order,
+        },
+    );
+}
