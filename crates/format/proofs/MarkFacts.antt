@@ -9,7 +9,7 @@ use borrow.Author.Tests.{eqb-true, ltb-true}
 use Rattle.format.specs.Conditions.{if_then_else_, among, all}
 use Rattle.format.specs.Marks.{integers, isInteger, signedIntegers, isSigned, width}
 
-among-passes : (p : ℕ → Bool) (l : List ℕ) (x : ℕ) → all p l ≡ true → among l x ≡ true → p x ≡ true
+pub among-passes : (p : ℕ → Bool) (l : List ℕ) (x : ℕ) → all p l ≡ true → among l x ≡ true → p x ≡ true
 unfolding all among
 among-passes p [] x a h = absurd (false≢true h)
 among-passes p (y ∷ l) x a h = go (p y) (eqb x y) refl refl a h (among-passes p l x)

@@ -1,0 +1,11 @@
+pub mod Holds
+pub mod Schemas
+pub mod Skips
+pub mod Order
+pub mod Rows
+pub mod Bounds
+pub mod Loops
+pub mod Slots
+pub mod Keeps
+pub mod Added
+pub mod Reading

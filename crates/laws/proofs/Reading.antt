@@ -1,0 +1,65 @@
+-- What always holds of reading, for all messages and all numbers of rows lent. Assumes nothing.
+use Prim.Native.Nat.{ℕ, _≤_}
+use mathlib.Core.Path.{_≡_, refl}
+use mathlib.Core.List.{List, [], _++_, append-nil}
+use mathlib.Core.Logic.{inl, inr}
+use native.Mathlib.Omega.{arith}
+use lib.ListN.{length, length-append}
+use borrow.Author.Tests.{le-leb}
+use Rattle.format.specs.Outcome.{fault, done, numberOf, _>>_, guard}
+use Rattle.format.specs.Limits.{limit, valueLevels}
+use Rattle.format.specs.Refusals.{endsTooEarly, noRowLeft}
+use Rattle.format.specs.Tokens.{Forest, size}
+use Rattle.format.specs.Rows.{allRows}
+use Rattle.format.specs.Bytes.{skip}
+use Rattle.format.specs.Sequences.{spaced}
+use Rattle.format.specs.Read.{read}
+use Rattle.laws.specs.Rising.{Rising}
+use Rattle.laws.proofs.Holds.{of-done, of-short}
+use Rattle.laws.proofs.Skips.{skip-inside}
+use Rattle.laws.proofs.Order.{order-size}
+use Rattle.laws.proofs.Rows.{length-rows, rows-rising}
+use Rattle.laws.proofs.Bounds.{value-bounded, read-bounded}
+use Rattle.laws.proofs.Keeps.{same, bind-keeps, then-keeps, bind-refuses, unless-free}
+use Rattle.laws.proofs.Added.{Added, value-keeps, end-refuses}
+
+-- There are as many rows as tokens.
+pub rows-are-tokens : (f : Forest) → length (allRows f) ≡ size f
+unfolding allRows
+rows-are-tokens f = length-rows 0 f
+
+module _ (m : List ℕ) (rowsLent : ℕ) where
+  -- An accepted message has at most as many rows as bytes, and at most as many as are lent.
+  pub rows-few : (f : Forest) → read m rowsLent ≡ done f → (size f ≤ length m) × (size f ≤ rowsLent)
+  rows-few f e =
+      let h = of-done f (read-bounded m rowsLent) e in
+      let k = order-size (h .1) in
+      (omega arith, h .0)
+
+  -- The first bytes of its rows rise strictly, and lie below the message's length.
+  pub first-bytes-rise : (f : Forest) → read m rowsLent ≡ done f → Rising 0 (length m) (allRows f)
+  unfolding allRows
+  first-bytes-rise f e = rows-rising 0 (of-done f (read-bounded m rowsLent) e .1)
+
+  -- More rows lent change no answer but a refusal with 8.
+  pub more-rows : (more : ℕ) → rowsLent ≤ more → (numberOf (read m rowsLent) ≡ noRowLeft → ⊥) → read m more ≡ read m rowsLent
+  unfolding read spaced
+  more-rows more l c =
+      let eight : Added (λ n. n ≡ noRowLeft) [] rowsLent more = record { bytes-added = inl refl; rows-added = inr refl; rows-kept = l } in
+      let k = rw (append-nil m) at (value-keeps _ m [] rowsLent more eight valueLevels 0 0) in
+      unless-free c (then-keeps same (bind-keeps k λ _. same))
+
+  -- As many rows as the message has bytes are always enough.
+  pub rows-enough : length m ≤ rowsLent → numberOf (read m rowsLent) ≡ noRowLeft → ⊥
+  rows-enough l e = let k = of-short (read-bounded m rowsLent) e in omega arith
+
+  -- More bytes after a refused message change no refusal but 2, as long as they stay within the limit.
+  pub more-bytes : (n place : ℕ) → read m rowsLent ≡ fault n place → (n ≡ endsTooEarly → ⊥)
+      → (bytes : List ℕ) → length (m ++ bytes) ≤ limit → read (m ++ bytes) rowsLent ≡ fault n place
+  unfolding read spaced guard _>>_
+  more-bytes n place e c bytes l =
+      let h : length m ≤ limit = omega (arith, length-append m bytes) in
+      let two : Added (λ n. n ≡ endsTooEarly) bytes rowsLent rowsLent = record { bytes-added = inr refl; rows-added = inl refl; rows-kept = omega arith } in
+      let b = value-bounded m rowsLent valueLevels (skip m 0) 0 (omega (arith, skip-inside m 0 (omega arith))) (omega arith) in
+      let k = bind-refuses b (value-keeps _ m bytes rowsLent rowsLent two valueLevels 0 0) (λ v s. end-refuses m bytes (v .1) (v .0) (s .inside)) n place c in
+      rw (le-leb (length (m ++ bytes)) limit l) (k (rw (le-leb (length m) limit h) at e))
