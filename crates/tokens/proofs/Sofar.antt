@@ -13,7 +13,9 @@ use Rattle.format.specs.Rows.{rows}
 use Rattle.format.specs.Sequences.{Reader, _⨾_}
 use Rattle.rows.specs.Overlay.{lay}
 use Rattle.rows.proofs.Overlay.{lay-append}
-use Rattle.tokens.specs.Answers.{Laid}
+use Rattle.tokens.specs.Answers.{onto, Laid, Meets}
+use Rattle.tokens.specs.declared.Step.{Step}
+use Rattle.tokens.specs.declared.Step.the-variants.{Fault, Next}
 
 -- ---- one forest and then another
 
@@ -59,19 +61,19 @@ lay-forest ws row f g =
 
 -- ---- what remains
 
--- a forest, and then what remains to be read
-unfoldable pub onto : Forest → Parsed Forest → Parsed Forest
-onto f o = o >>= (λ r. done (f ⊕ r .0, r .1))
-
-onto-none : (o : Parsed Forest) → onto none o ≡ o
+pub onto-none : (o : Parsed Forest) → onto none o ≡ o
 unfolding onto _>>=_ _⊕_
 onto-none (fault n p) = refl
 onto-none (done r) = refl
 
-onto-onto : (f g : Forest) (o : Parsed Forest) → onto f (onto g o) ≡ onto (f ⊕ g) o
+pub onto-onto : (f g : Forest) (o : Parsed Forest) → onto f (onto g o) ≡ onto (f ⊕ g) o
 unfolding onto _>>=_
 onto-onto f g (fault n p) = refl
 onto-onto f g (done r) = rw (⊕-assoc f g (r .0))
+
+pub onto-fault : (f : Forest) (o : Parsed Forest) (n p : ℕ) → o ≡ fault n p → onto f o ≡ fault n p
+unfolding onto _>>=_
+onto-fault f o n p e = rw e
 
 -- one is read, and another remains
 pub seq-read : (item rest : Reader) (at row next : ℕ) (f : Forest) → item at row ≡ done (f, next) → (item ⨾ rest) at row ≡ onto f (rest next (row + size f))
@@ -125,3 +127,31 @@ module _ {whole : Parsed Forest} {first : ℕ} {before : List ℕ} {remains : Pa
   unfolding onto _>>=_
   sofar-end end e =
       record { forest = s .forest; read = s .is ∙ rw (e, append-none (s .forest)); counted = s .counted; took = s .took; lie = s .lie }
+
+-- ---- one is read, and then another
+
+-- what is read after tokens that lie already
+pub laid-after : {b : Parsed Forest} {row j k row′ end row″ : ℕ} {before mid after : List ℕ} (f : Forest)
+    → members f ≡ j → row′ ≡ row + size f → mid ≡ lay before row (rows row f) → Laid b row′ k mid after end row″
+    → Laid (onto f b) row (j + k) before after end row″
+unfolding onto _>>=_
+laid-after {row = row} {before = before} f counted took lie h =
+    record {
+      forest = f ⊕ h .forest;
+      read = rw (h .read);
+      counted = members-append f (h .forest) ∙ omega (arith, counted, h .counted);
+      took = omega (arith, took, h .took, size-append f (h .forest));
+      lie = h .lie ∙ rw (lie, took) (lay-forest before row f (h .forest));
+    }
+
+pub laid-onto : {a b : Parsed Forest} {row j k next row′ end row″ : ℕ} {before mid after : List ℕ} (l : Laid a row j before mid next row′) → Laid b row′ k mid after end row″
+    → Laid (onto (l .forest) b) row (j + k) before after end row″
+laid-onto l h = laid-after (l .forest) (l .counted) (l .took) (l .lie) h
+
+-- two readers one after another, where the first has read
+pub seq-meets : (r : Step) (item rest : Reader) (at row j next row′ k : ℕ) (before mid after : List ℕ) → Laid (item at row) row j before mid next row′
+    → Meets r (rest next row′) row′ k mid after → Meets r ((item ⨾ rest) at row) row (j + k) before after
+seq-meets (Fault n p) item rest at row j next row′ k before mid after l e =
+    seq-read item rest at row next (l .forest) (l .read) ∙ rw (← l .took) (onto-fault (l .forest) _ n p e)
+seq-meets (Next end row″) item rest at row j next row′ k before mid after l h =
+    rw (seq-read item rest at row next (l .forest) (l .read), ← l .took) (laid-onto l h)

@@ -1,12 +1,14 @@
 -- How the core's answers stand to the outcomes of the definitions, and to the lent words.
 use Prim.Native.Nat.{ℕ, _+_, _^_, _≤_, _<_}
 use mathlib.Core.Path.{_≡_}
+use mathlib.Core.Bool.{Bool, true, false}
 use mathlib.Core.List.{List}
 use lib.ListN.{length}
-use Rattle.format.specs.Outcome.{Outcome, Parsed, fault, done}
+use Rattle.format.specs.Outcome.{Outcome, Parsed, fault, done, _>>=_}
 use Rattle.format.specs.Limits.{limit}
+use Rattle.format.specs.Marks.{Opening, bracket, brace}
 use Rattle.format.specs.Tokens as Tokens
-use Rattle.format.specs.Tokens.{Forest, alone, size, members}
+use Rattle.format.specs.Tokens.{Forest, alone, size, _⊕_, members}
 use Rattle.format.specs.Rows.{rows}
 use Rattle.format.specs.Answers.{kindOf}
 use Rattle.rows.specs.Overlay.{lay}
@@ -15,6 +17,11 @@ use Rattle.tokens.specs.declared.scalars.Place.{Place}
 use Rattle.tokens.specs.declared.scalars.Place.the-variants.{At, Refused}
 use Rattle.tokens.specs.declared.Step.{Step}
 use Rattle.tokens.specs.declared.Step.the-variants.{Fault, Next}
+
+-- a brace, or a bracket
+abbrev pub openingOf : Bool → Opening
+openingOf true = brace
+openingOf false = bracket
 
 -- ---- a token's row
 
@@ -63,6 +70,10 @@ pub record Laid (o : Parsed Forest) (row k : ℕ) (before after : List ℕ) (nex
   pub counted : members forest ≡ k
   pub took : row′ ≡ row + size forest
   pub lie : after ≡ lay before row (rows row forest)
+
+-- a forest, and then what remains to be read
+unfoldable pub onto : Forest → Parsed Forest → Parsed Forest
+onto f o = o >>= (λ r. done (f ⊕ r .0, r .1))
 
 -- the answer to a reader that gives k members: its refusal, whatever the words then hold; or what was read
 abbrev pub Meets : Step → Parsed Forest → ℕ → ℕ → List ℕ → List ℕ → Type 0

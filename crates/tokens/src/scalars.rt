@@ -14,6 +14,7 @@ ghost use mathlib.Core.Path.{_≡_};
 ghost use Prim.Native.Nat.{ℕ, _+_, _≤_, _<_};
 ghost use lib.ListN.{length};
 ghost use Rattle.format.specs.Limits.{limit};
+ghost use Rattle.format.specs.Marks.{width};
 ghost use Rattle.format.specs.Tokens.{alone, uncounted, members};
 ghost use Rattle.format.specs.Answers.{kindOf};
 ghost use Rattle.format.specs.Content.{payloadEnd};
@@ -93,7 +94,7 @@ pub fn scalar(
     at: usize,
     row: usize,
 ) -> Step
-    requires { ⌜ Here (now message) lent at row × (at ≤ start) × (start ≤ length (now message)) × (row < start) ⌝ }
+    requires { ⌜ Here (now message) lent at row × (at ≤ start) × (start ≤ length (now message)) × (row < start + width mark) ⌝ }
     ensures meets { λ r. ⌜ Meets r (scalarAt (now (message .entry)) lent mark start at row) row 1 (now (rows .entry)) (now (rows .exit)) ⌝ }
     ensures bounds { λ r. ⌜ Within r start (length (now (message .entry))) lent ⌝ }
 {
@@ -114,7 +115,7 @@ pub fn unmarked(
     at: usize,
     row: usize,
 ) -> Step
-    requires { ⌜ Here (now message) lent at row × (row < at) ⌝ }
+    requires { ⌜ Here (now message) lent at row × (row < at + width mark) ⌝ }
     ensures meets { λ r. ⌜ Meets r (unmarkedAt (now (message .entry)) lent mark at row) row 1 (now (rows .entry)) (now (rows .exit)) ⌝ }
     ensures bounds { λ r. ⌜ Within r at (length (now (message .entry))) lent ⌝ }
 {
