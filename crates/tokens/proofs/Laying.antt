@@ -52,3 +52,11 @@ laid-over t o row k next row′ end before mid now l e =
       took = omega arith;
       lie = e ∙ rw (l .lie, q, p, append-nil) (lay-front before row (rowOf t (suc row + size f)) (rows (suc row) f));
     }
+
+-- the same where those below it are given
+pub laid-under : (t : Token) (under : Forest) (row end link : ℕ) (before mid now : List ℕ) → link ≡ row + 1 + size under
+    → mid ≡ lay before (row + 1) (rows (row + 1) under) → now ≡ store mid row (rowOf t link)
+    → Laid (done (node t under none, end)) row (members (node t under none)) before now end link
+laid-under t under row end link before mid now took lie e =
+    laid-over t (done (under, end)) row (members under) end link end before mid now
+    (record { forest = under; read = refl; counted = refl; took = took; lie = lie }) e
