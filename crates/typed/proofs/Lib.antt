@@ -1,0 +1,2 @@
+pub mod PackedCases
+pub mod TableCases

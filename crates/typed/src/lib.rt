@@ -1,0 +1,2 @@
+// Typed containers: packed arrays, tables and typed objects.
+pub mod packed;
