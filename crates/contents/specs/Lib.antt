@@ -1,1 +1,5 @@
+pub mod Least
+pub mod Items
+pub mod Walks
+pub mod Tables
 pub mod Answers

@@ -1,0 +1,107 @@
+// The two layouts of a table's payload, by rows and by columns.
+use crate::columns::Walk;
+use crate::walk::after_key;
+use crate::walk::closed;
+use crate::walk::group;
+use crate::walk::kind;
+ghost use mathlib.Core.Path.{_≡_};
+ghost use Prim.Native.Nat.{ℕ, _≤_};
+ghost use Rattle.format.specs.Tokens.{Forest, belowFirst};
+ghost use Rattle.format.specs.Indexes.{below};
+ghost use Rattle.format.specs.Storage.{records};
+ghost use Rattle.contents.specs.Least.{nowhere, farthest, least, inColumns, inFields};
+ghost use Rattle.tokens.specs.Answers.{openingOf};
+ghost use Rattle.contents.specs.Walks.{Sound, Ends};
+ghost use Rattle.contents.specs.Tables.{TableAt, FieldWalks};
+
+// One field by columns: its width, then its leaves.
+fn field(message: &[u8], at: usize, count: usize, place: usize, best: usize) -> Walk
+    requires { ⌜ Sound 0 place best ⌝ }
+    ensures is { λ r. ⌜ FieldWalks (now (message .entry)) at count place best r ⌝ }
+    ensures bounds { λ r. ⌜ Ends best r ⌝ }
+{
+    let off = Walk {
+        next: at,
+        place,
+        best,
+    };
+    let first = kind(message, 7, at, 65_536, 0, 0, best);
+    let wide = first.place;
+    if 65_536 < wide {
+        return off;
+    }
+    if 1_048_576 < count {
+        return off;
+    }
+    let taken = count * wide;
+    if 2_097_152 - place < taken {
+        return off;
+    }
+    let walk = kind(message, 7, at, wide, count, place, best);
+    let next = walk.next;
+    let low = walk.best;
+    Walk {
+        next: next,
+        place: place + taken,
+        best: low,
+    }
+}
+
+// The least place of a wrong value, by columns.
+fn by_columns(message: &[u8], schema: usize, count: usize, start: usize) -> usize
+    requires { ⌜ start ≤ farthest ⌝ }
+    ensures is { λ r. ⌜ ((wide lent row next : ℕ) (s : Forest) → TableAt (now (message .entry)) schema wide count start lent row next s → r ≡ inFields (now (message .entry)) count (belowFirst s) start) ⌝ }
+    ensures bounds { λ r. ⌜ r ≤ nowhere ⌝ }
+{
+    let end = message.len();
+    if end <= schema {
+        return 1_048_577;
+    }
+    let mut i = schema + 1;
+    let mut place = start;
+    let mut low = 1_048_577;
+    while i < end {
+        let from = after_key(message, true, i);
+        let walk = field(message, from, count, place, low);
+        let next = walk.next;
+        place = walk.place;
+        low = walk.best;
+        if closed(message, true, next) {
+            return low;
+        }
+        if next <= i {
+            return 1_048_577;
+        }
+        i = next;
+    }
+    1_048_577
+}
+
+// The least place of a wrong value, by rows.
+fn by_rows(message: &[u8], schema: usize, wide: usize, count: usize, start: usize) -> usize
+    requires { ⌜ Sound wide start nowhere ⌝ }
+    ensures is { λ r. ⌜ ((lent row next : ℕ) (s : Forest) → TableAt (now (message .entry)) schema wide count start lent row next s → r ≡ inColumns (now (message .entry)) wide count (belowFirst s) start) ⌝ }
+    ensures bounds { λ r. ⌜ r ≤ nowhere ⌝ }
+{
+    let walk = group(message, 8, true, schema, wide, count, start, 1_048_577);
+    walk.best
+}
+
+// The least place of a wrong value.
+pub fn lowest(
+    message: &[u8],
+    brace: bool,
+    schema: usize,
+    wide: usize,
+    count: usize,
+    start: usize,
+) -> usize
+    requires { ⌜ Sound wide start nowhere ⌝ }
+    ensures is { λ r. ⌜ ((lent row next n : ℕ) (s : Forest) → TableAt (now (message .entry)) schema wide count start lent row next s → r ≡ least (now (message .entry)) start (records (openingOf brace) n (belowFirst s) (below count))) ⌝ }
+    ensures bounds { λ r. ⌜ r ≤ nowhere ⌝ }
+{
+    if brace {
+        return by_columns(message, schema, count, start);
+    }
+    by_rows(message, schema, wide, count, start)
+}

@@ -1,0 +1,36 @@
+// The content of a table's payload.
+use crate::Checked;
+use crate::layouts::lowest;
+ghost use mathlib.Core.Path.{_≡_};
+ghost use Prim.Native.Nat.{ℕ};
+ghost use Rattle.format.specs.Tokens.{Forest, belowFirst};
+ghost use Rattle.format.specs.Indexes.{below};
+ghost use Rattle.format.specs.Storage.{records};
+ghost use Rattle.format.specs.Content.{contents};
+ghost use Rattle.tokens.specs.Answers.{openingOf};
+ghost use Rattle.contents.specs.Tables.{TableAt};
+ghost use Rattle.contents.specs.Answers.{checkedOf};
+
+// The content of a table's payload. `schema` is the place of the schema's first byte, `wide` a record's width.
+pub fn table_contents(
+    message: &[u8],
+    brace: bool,
+    schema: usize,
+    wide: usize,
+    count: usize,
+    start: usize,
+) -> Checked
+    ensures { λ r. ⌜ ((lent row next n : ℕ) (s : Forest) → TableAt (now (message .entry)) schema wide count start lent row next s → checkedOf r ≡ contents (now (message .entry)) start (records (openingOf brace) n (belowFirst s) (below count))) ⌝ }
+{
+    if 65_536 < wide {
+        return Checked::Right;
+    }
+    if 1_048_576 < start {
+        return Checked::Right;
+    }
+    let place = lowest(message, brace, schema, wide, count, start);
+    if 1_048_576 < place {
+        return Checked::Right;
+    }
+    Checked::Wrong(place)
+}

@@ -1,0 +1,132 @@
+// The walk over a schema's bytes: each leaf's column is looked at once.
+use crate::columns::Walk;
+use crate::columns::byte_at;
+use crate::columns::leaf;
+use format::marks::ARRAY;
+use format::marks::ARRAY_END;
+use format::marks::Mark;
+use format::marks::OBJECT;
+use format::marks::OBJECT_END;
+use scan::integers::LIMIT;
+use scan::integers::Parsed;
+use scan::integers::number;
+ghost use mathlib.Core.Path.{_≡_};
+ghost use mathlib.Core.Bool.{_&&_};
+ghost use Prim.Native.Nat.{ℕ, _+_, _≤_};
+ghost use lib.ListN.{length, getD};
+ghost use lib.Dec.{ltb, eqb};
+ghost use Rattle.format.specs.Outcome.{done};
+ghost use Rattle.format.specs.Marks.{closes};
+ghost use Rattle.format.specs.Tokens.{Forest};
+ghost use Rattle.format.specs.Sequences.{Reader};
+ghost use Rattle.format.specs.Schemas.{kindBy, nested};
+ghost use Rattle.tokens.specs.Answers.{openingOf};
+ghost use Rattle.contents.specs.Items.{itemOf, Keyed};
+ghost use Rattle.contents.specs.Walks.{Sound, Ends, Walks};
+
+// Where a member's kind begins: after its key, in a schema.
+pub fn after_key(message: &[u8], brace: bool, at: usize) -> usize
+    ensures { λ r. ⌜ ((lent row next : ℕ) (kind : Reader) (f : Forest) → row ≤ lent → at ≤ length (now (message .entry)) → itemOf (now (message .entry)) lent (openingOf brace) kind at row ≡ done (f, next) → Keyed lent kind f next r) ⌝ }
+{
+    if !brace {
+        return at;
+    }
+    let end = message.len();
+    if end <= at {
+        return at;
+    }
+    let mark = Mark(message[at]);
+    match number(message, LIMIT, mark, at, at + 1) {
+        Parsed::Refused(_, _) => at,
+        Parsed::Number(n, start) => {
+            let size = n as usize;
+            if end - start < size {
+                return at;
+            }
+            start + size
+        }
+    }
+}
+
+// Whether the closing mark stands here.
+pub fn closed(message: &[u8], brace: bool, at: usize) -> bool
+    ensures { λ r. ⌜ r ≡ (ltb at (length (now (message .entry))) && eqb (getD (now (message .entry)) at 0) (closes (openingOf brace))) ⌝ }
+{
+    if message.len() <= at {
+        return false;
+    }
+    let b = message[at];
+    if brace {
+        return b == OBJECT_END;
+    }
+    b == ARRAY_END
+}
+
+// A kind: a leaf, a schema or a fixed array.
+pub fn kind(
+    message: &[u8],
+    levels: usize,
+    at: usize,
+    stride: usize,
+    count: usize,
+    place: usize,
+    best: usize,
+) -> Walk
+    requires { ⌜ Sound stride place best ⌝ }
+    ensures is { λ r. ⌜ Walks (now (message .entry)) (λ lent. kindBy (now (message .entry)) lent (nested (now (message .entry)) lent levels)) at stride count place best r ⌝ }
+    ensures bounds { λ r. ⌜ Ends best r ⌝ }
+{
+    let mark = byte_at(message, at);
+    if mark == ARRAY {
+        return group(message, levels, false, at, stride, count, place, best);
+    }
+    if mark == OBJECT {
+        return group(message, levels, true, at, stride, count, place, best);
+    }
+    leaf(message, at, stride, count, place, best)
+}
+
+// A schema or a fixed array, with so many levels of nesting left.
+pub fn group(
+    message: &[u8],
+    levels: usize,
+    brace: bool,
+    at: usize,
+    stride: usize,
+    count: usize,
+    place: usize,
+    best: usize,
+) -> Walk
+    requires { ⌜ Sound stride place best ⌝ }
+    ensures is { λ r. ⌜ Walks (now (message .entry)) (λ lent. nested (now (message .entry)) lent levels (openingOf brace)) at stride count place best r ⌝ }
+    ensures bounds { λ r. ⌜ Ends best r ⌝ }
+{
+    let next = at;
+    let off = Walk { next, place, best };
+    if levels == 0 {
+        return off;
+    }
+    if message.len() <= at {
+        return off;
+    }
+    let mut i = at + 1;
+    let mut here = place;
+    let mut low = best;
+    while i < message.len() {
+        let from = after_key(message, brace, i);
+        let walk = kind(message, levels - 1, from, stride, count, here, low);
+        let next = walk.next;
+        if closed(message, brace, next) {
+            let mut whole = walk;
+            whole.next = next + 1;
+            return whole;
+        }
+        if next <= i {
+            return off;
+        }
+        i = next;
+        here = walk.place;
+        low = walk.best;
+    }
+    off
+}
