@@ -1,0 +1,4 @@
+pub mod Placing
+pub mod Sofar
+pub mod Cases
+pub mod Loop

@@ -1,0 +1,15 @@
+-- `stands`: a byte there, and this one. Assumes nothing.
+use borrow.Author.Needs.{needs}
+use borrow.Author.Tests.{lt-ltb, le-ltb}
+use Rattle.schemas.specs.Answers.{stands}
+use Rattle.schemas.proofs.groups.stands.Statement.{statement}
+use Rattle.schemas.proofs.groups.stands.Tie as tie
+
+pub stands-spec : {M : Type 1} → statement M
+unfolding stands
+stands-spec =
+    tie.close
+    (tie.spec
+    (λ c. rw (le-ltb _ _ (c .if1 .taken)))
+    (λ c. search needs)
+    (λ c. rw (lt-ltb _ _ (c .before .if1 .left))))

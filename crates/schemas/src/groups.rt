@@ -1,0 +1,167 @@
+// The records and fixed arrays of a schema, which hold each other: members one after another are a loop, nesting is a call.
+use crate::Kinds;
+use crate::starts::Start;
+use crate::starts::field_start;
+use crate::starts::kind_start;
+use format::answers::Kind;
+use format::marks::ARRAY;
+use format::marks::ARRAY_END;
+use format::marks::OBJECT;
+use format::marks::OBJECT_END;
+use tokens::entry::Entry;
+use tokens::entry::put;
+ghost use mathlib.Core.Path.{_≡_};
+ghost use Prim.Native.Nat.{_+_, _-_, _≤_, _<_};
+ghost use lib.ListN.{length};
+ghost use Rattle.format.specs.Limits.{limit};
+ghost use Rattle.format.specs.Answers.{kindOf};
+ghost use Rattle.format.specs.Rows.{rowOf};
+ghost use Rattle.format.specs.Schemas.{tableSchema};
+ghost use Rattle.rows.specs.Row.{store as storeIn};
+ghost use Rattle.tokens.specs.Answers.{Here};
+ghost use Rattle.schemas.specs.Answers.{over, stands as standsIn, groupAt, arrayAt, recordAt, Meets, Within};
+
+// How deep schemas nest.
+const LEVELS: usize = 8;
+
+// Whether a byte is there, and is this one.
+fn stands(message: &[u8], at: usize, mark: u8) -> bool
+    ensures { λ r. ⌜ r ≡ standsIn (now (message .entry)) at mark ⌝ }
+{
+    if message.len() <= at {
+        return false;
+    }
+    message[at] == mark
+}
+
+// Stores the row of a record or a fixed array, once its members are read: it is as wide as they are together.
+fn put_group(
+    rows: &mut [u32],
+    row: usize,
+    kind: Kind,
+    mark: u8,
+    at: usize,
+    offset: usize,
+    end: usize,
+    count: usize,
+    link: usize,
+)
+    requires { ⌜ (at ≤ limit) × (offset ≤ end) × (end ≤ over) × (count ≤ limit) × (link ≤ limit) ⌝ }
+    ensures { λ _. ⌜ now (rows .exit) ≡ storeIn (now (rows .entry)) row (rowOf (groupAt (kindOf kind) mark at offset (end - offset) count) link) ⌝ }
+{
+    let extent = end - offset;
+    put(
+        rows,
+        row,
+        Entry {
+            kind: kind,
+            mark: mark,
+            first: at,
+            payload: offset,
+            extent: extent,
+            count: count,
+            order: 0,
+        },
+        link,
+    );
+}
+
+// The kinds of a record, from its `{` to its `}`, with so many levels of schema nesting left in it.
+pub fn record_kinds(
+    message: &[u8],
+    rows: &mut [u32],
+    lent: usize,
+    levels: usize,
+    at: usize,
+    row: usize,
+    offset: usize,
+) -> Kinds
+    requires { ⌜ Here (now message) lent at row × (at < length (now message)) × (row < lent) × (offset ≤ over) ⌝ }
+    ensures meets { λ r. ⌜ Meets r (recordAt (now (message .entry)) lent levels at row) row offset (now (rows .entry)) (now (rows .exit)) ⌝ }
+    ensures bounds { λ r. ⌜ Within r (at + 1) (length (now (message .entry))) lent offset ⌝ }
+{
+    let mut here = at + 1;
+    let mut next = row + 1;
+    let mut end = offset;
+    let mut count = 0;
+    loop {
+        let kind = match field_start(message, rows, lent, levels, here, next, end) {
+            Start::Ended(k) => k,
+            Start::Array(a, r) => array_kinds(message, rows, lent, levels - 1, a, r, end),
+            Start::Record(a, r) => record_kinds(message, rows, lent, levels - 1, a, r, end),
+        };
+        match kind {
+            Kinds::Fault(number, place) => {
+                return Kinds::Fault(number, place);
+            }
+            Kinds::Next(place, link, beyond) => {
+                here = place;
+                next = link;
+                end = beyond;
+            }
+        }
+        count += 1;
+        if stands(message, here, OBJECT_END) {
+            let after = here + 1;
+            let group = Kind::SchemaRecord;
+            put_group(rows, row, group, OBJECT, at, offset, end, count, next);
+            return Kinds::Next(after, next, end);
+        }
+    }
+}
+
+// The kinds of a fixed array, from its `[` to its `]`.
+pub fn array_kinds(
+    message: &[u8],
+    rows: &mut [u32],
+    lent: usize,
+    levels: usize,
+    at: usize,
+    row: usize,
+    offset: usize,
+) -> Kinds
+    requires { ⌜ Here (now message) lent at row × (at < length (now message)) × (row < lent) × (offset ≤ over) ⌝ }
+    ensures meets { λ r. ⌜ Meets r (arrayAt (now (message .entry)) lent levels at row) row offset (now (rows .entry)) (now (rows .exit)) ⌝ }
+    ensures bounds { λ r. ⌜ Within r (at + 1) (length (now (message .entry))) lent offset ⌝ }
+{
+    let mut here = at + 1;
+    let mut next = row + 1;
+    let mut end = offset;
+    let mut count = 0;
+    loop {
+        let kind = match kind_start(message, rows, lent, levels, here, next, end) {
+            Start::Ended(k) => k,
+            Start::Array(a, r) => array_kinds(message, rows, lent, levels - 1, a, r, end),
+            Start::Record(a, r) => record_kinds(message, rows, lent, levels - 1, a, r, end),
+        };
+        match kind {
+            Kinds::Fault(number, place) => {
+                return Kinds::Fault(number, place);
+            }
+            Kinds::Next(place, link, beyond) => {
+                here = place;
+                next = link;
+                end = beyond;
+            }
+        }
+        count += 1;
+        if stands(message, here, ARRAY_END) {
+            let after = here + 1;
+            let group = Kind::FixedArray;
+            put_group(rows, row, group, ARRAY, at, offset, end, count, next);
+            return Kinds::Next(after, next, end);
+        }
+    }
+}
+
+// A table's schema, whose `{` stands at `at`; the offset after it is the record's width.
+pub fn table_schema(message: &[u8], rows: &mut [u32], lent: usize, at: usize, row: usize) -> Kinds
+    requires { ⌜ Here (now message) lent at row × (at < length (now message)) ⌝ }
+    ensures meets { λ r. ⌜ Meets r (tableSchema (now (message .entry)) lent at row) row 0 (now (rows .entry)) (now (rows .exit)) ⌝ }
+    ensures bounds { λ r. ⌜ Within r (at + 1) (length (now (message .entry))) lent 0 ⌝ }
+{
+    if lent <= row {
+        return Kinds::Fault(8, at);
+    }
+    record_kinds(message, rows, lent, LEVELS - 1, at, row, 0)
+}
