@@ -2,12 +2,12 @@
 use Prim.Native.Nat.{ℕ, _≤_, _<_}
 use mathlib.Core.Path.{_≡_, refl, subst, sym}
 use mathlib.Core.Bool.{Bool, true, false, _&&_, _||_, false≢true}
-use mathlib.Core.List.{List, [], _∷_}
+use mathlib.Core.List.{List, [], _∷_, _++_}
 use native.Mathlib.Omega.{arith}
 use lib.Dec.{eqb, ltb}
 use borrow.Author.Tests.{eqb-true, ltb-true}
 use Rattle.format.specs.Conditions.{if_then_else_, among, all}
-use Rattle.format.specs.Marks.{integers, isInteger, signedIntegers, isSigned, width}
+use Rattle.format.specs.Marks.{integers, isInteger, signedIntegers, isSigned, types, isType, width}
 
 pub among-passes : (p : ℕ → Bool) (l : List ℕ) (x : ℕ) → all p l ≡ true → among l x ≡ true → p x ≡ true
 unfolding all among
@@ -20,10 +20,15 @@ among-passes p (y ∷ l) x a h = go (p y) (eqb x y) refl refl a h (among-passes 
     go true true e f a h rest = subst (λ k. p k ≡ true) (sym (eqb-true x y f)) e
     go true false e f a h rest = rest a h
 
--- an integer's mark has bytes
+-- a type's mark has bytes
+pub type-wide : (mark : ℕ) → isType mark ≡ true → 0 < width mark
+unfolding isType types integers _++_ all width among if_then_else_
+type-wide mark h = ltb-true 0 (width mark) (among-passes (λ k. ltb 0 (width k)) types mark refl h)
+
+-- an integer's mark is a type's, and so has bytes
 pub integer-wide : (mark : ℕ) → isInteger mark ≡ true → 0 < width mark
-unfolding isInteger integers all width among if_then_else_
-integer-wide mark h = ltb-true 0 (width mark) (among-passes (λ k. ltb 0 (width k)) integers mark refl h)
+unfolding isType types isInteger integers _++_ all among
+integer-wide mark h = type-wide mark (among-passes isType integers mark refl h)
 
 -- a signed integer's mark is an integer's
 pub signed-integer : (mark : ℕ) → isSigned mark ≡ true → isInteger mark ≡ true

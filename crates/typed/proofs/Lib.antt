@@ -1,2 +1,4 @@
+pub mod Header
 pub mod PackedCases
 pub mod TableCases
+pub mod TypeCases

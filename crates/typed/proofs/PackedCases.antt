@@ -3,8 +3,6 @@ use Prim.Native.Nat.{ℕ, _+_, _*_, _≤_, _<_}
 use mathlib.Core.Path.{_≡_, refl, sym, _∙_}
 use mathlib.Core.Bool.{true}
 use mathlib.Core.List.{List}
-use native.Mathlib.Omega.{arith}
-use native.Mathlib.Nat.{mul-le-mul-left}
 use lib.ListN.{length}
 use borrow.Author.Tests.{le-leb, lt-leb}
 use Rattle.format.specs.Outcome.{Outcome, Parsed, fault, done, _>>=_, _>>_, guard}
@@ -53,7 +51,3 @@ module _ (m : List ℕ) (lent mark from at row : ℕ) where
       pub packed-there : (content : Checked) → start + s .many * width mark ≤ length m → checkedOf content ≡ contents m start (elements row mark (below (s .many)))
           → packed m lent mark from at row ≡ checked content (stored packedKind mark at start (s .many * width mark) s (s .dimensions), start + s .many * width mark)
       packed-there content h e = to-contents h ∙ then-checked content _ _ e
-
--- the product of a count and a width is small
-pub small-product : (n w : ℕ) → n ≤ limit → w ≤ 8 → n * w ≤ 8 * limit
-small-product n w h k = let e = mul-le-mul-left n k in omega arith

@@ -12,7 +12,7 @@ use Rattle.format.specs.Tokens.{isKind, members}
 use Rattle.format.specs.Containers.{stored}
 use Rattle.format.proofs.MarkFacts.{width-few}
 use Rattle.tokens.proofs.Laying.{within-from}
-use Rattle.typed.proofs.PackedCases.{packed-fault, packed-over, packed-early, packed-there, small-product}
+use Rattle.typed.proofs.PackedCases.{packed-fault, packed-over, packed-early, packed-there}
 use Rattle.typed.proofs.packed.packed.Statement.{statement}
 use Rattle.typed.proofs.packed.packed.Tie as tie
 
@@ -23,7 +23,8 @@ returns c =
 
 mul-extent : tie.Need-mul-extent
 mul-extent c =
-    let w = c .width in omega (arith, small-product (c .before .before .before .next .given .0 .1 .1 .0) (w .result) (omega arith) (rw (w .ensures) (width-few _)))
+    let few : c .before .before .before .next .given .0 .1 .1 .0 ≤ limit = omega arith in
+    let narrow : c .width .result ≤ 8 = rw (c .width .ensures) (width-few _) in omega (arith, mul-le-mul few narrow)
 
 sub-if2 : tie.Need-sub-if2
 sub-if2 c =

@@ -1,0 +1,103 @@
+// Tables: a schema, a count, and records by rows or by columns.
+use crate::packed::store_row;
+use containers::lists::opening_mark;
+use contents::tables::table_contents;
+use format::answers::Kind;
+use format::marks::COUNT;
+use scan::integers::LIMIT;
+use schemas::Kinds;
+use schemas::groups::table_schema;
+use shapes::counts::Shaped;
+use shapes::counts::shape;
+use tokens::Step;
+use tokens::entry::Entry;
+ghost use mathlib.Core.Path.{_≡_};
+ghost use mathlib.Core.List.{List};
+ghost use Prim.Native.Nat.{ℕ, _+_, _≤_, _<_};
+ghost use lib.ListN.{length};
+ghost use Rattle.format.specs.Containers.{table as tableAt};
+ghost use Rattle.tokens.specs.Answers.{openingOf, Meets, Here, Within};
+ghost use Rattle.typed.specs.Tables.{HeaderRead, HeaderWithin};
+
+// A record's bytes at most.
+const RECORD_LIMIT: usize = 65_536;
+
+// The table at `at`, once its schema, of `wide` bytes, and its count are read: `link` is the row after those of both.
+fn table_payload(
+    message: &[u8],
+    rows: &mut [u32],
+    brace: bool,
+    wide: usize,
+    start: usize,
+    link: usize,
+    many: usize,
+    order: u32,
+    at: usize,
+    row: usize,
+) -> Step
+    requires { ⌜ HeaderWithin (now message) wide start link many at row ⌝ }
+    ensures meets { λ r. ⌜ ((lent : ℕ) (before : List ℕ) → HeaderRead (now (message .entry)) lent at row before (now (rows .entry)) wide start link many order
+        → Meets r (tableAt (now (message .entry)) lent (openingOf brace) at row) row 1 before (now (rows .exit))) ⌝ }
+    ensures bounds { λ r. ⌜ ((lent : ℕ) → link ≤ lent → Within r (at + 1) (length (now (message .entry))) lent) ⌝ }
+{
+    if (LIMIT as usize) < many {
+        return Step::Fault(5, at);
+    }
+    if RECORD_LIMIT < wide {
+        return Step::Fault(5, at);
+    }
+    let end = message.len();
+    let extent = many * wide;
+    if end - start < extent {
+        return Step::Fault(2, end);
+    }
+    let content = table_contents(message, brace, at + 2, wide, many, start);
+    let mark = opening_mark(brace);
+    let e = Entry {
+        kind: Kind::Table,
+        mark: mark,
+        first: at,
+        payload: start,
+        extent: extent,
+        count: many,
+        order: order,
+    };
+    store_row(rows, row, e, link, content)
+}
+
+// The table at `at`.
+pub fn table(
+    message: &[u8],
+    rows: &mut [u32],
+    lent: usize,
+    brace: bool,
+    at: usize,
+    row: usize,
+) -> Step
+    requires { ⌜ Here (now message) lent at row × (at + 2 < length (now message)) × (row < lent) ⌝ }
+    ensures meets { λ r. ⌜ Meets r (tableAt (now (message .entry)) lent (openingOf brace) at row) row 1 (now (rows .entry)) (now (rows .exit)) ⌝ }
+    ensures bounds { λ r. ⌜ Within r (at + 1) (length (now (message .entry))) lent ⌝ }
+{
+    let below = row + 1;
+    match table_schema(message, rows, lent, at + 2, below) {
+        Kinds::Fault(n, p) => Step::Fault(n, p),
+        Kinds::Next(from, after, wide) => {
+            let end = message.len();
+            if end <= from {
+                return Step::Fault(2, end);
+            }
+            if message[from] != COUNT {
+                return Step::Fault(3, from);
+            }
+            match shape(message, rows, lent, false, from + 1, after) {
+                Shaped::Refused(n, p) => Step::Fault(n, p),
+                Shaped::Shape {
+                    next,
+                    row: link,
+                    many,
+                    order,
+                } => table_payload(message, rows, brace, wide, next, link, many, order, at, row),
+            }
+        }
+    }
+}
