@@ -1,0 +1,4 @@
+pub mod ItemCases
+pub mod ItemLaws
+pub mod ContainerCases
+pub mod MessageCases

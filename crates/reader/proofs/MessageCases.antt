@@ -1,0 +1,67 @@
+-- The cases of a whole message, and what the lent words hold at the end. Assumes nothing.
+use Prim.Native.Nat.{ℕ, zero, suc, _+_, _*_, _/_, _≤_, _<_}
+use mathlib.Core.Path.{_≡_, refl, sym, ap, _∙_}
+use mathlib.Core.List.{List}
+use native.Mathlib.Omega.{arith}
+use lib.ListN.{length, length-replicate}
+use lib.Dec.{leb, eqb}
+use borrow.Author.Tests.{le-leb, lt-leb, eq-eqb, ne-eqb}
+use Rattle.format.specs.Outcome.{Outcome, fault, done, _>>=_, _>>_, guard}
+use Rattle.format.specs.Limits.{limit, valueLevels}
+use Rattle.format.specs.Refusals.{messageTooLong, bytesAfter}
+use Rattle.format.specs.Marks.{bracket}
+use Rattle.format.specs.Tokens.{Forest, size}
+use Rattle.format.specs.Rows.{rows, rowsIn, allRows, allWords, zeros}
+use Rattle.format.specs.Bytes.{skip}
+use Rattle.format.specs.Containers.{items}
+use Rattle.format.specs.Read.{read, rowsUsed, wordsAfter}
+use Rattle.rows.specs.Overlay.{lay}
+use Rattle.rows.proofs.Overlay.{lay-zeros}
+use Rattle.tokens.specs.Answers.{Laid}
+use Rattle.tokens.proofs.Sofar.{length-rows}
+use Rattle.reader.specs.Values.{memberOf}
+use Rattle.reader.specs.Message.{Lies}
+
+module _ (m : List ℕ) (lent : ℕ) where
+  pub read-long : limit < length m → read m lent ≡ fault messageTooLong 0
+  unfolding read guard _>>_
+  read-long h = rw (lt-leb _ _ h)
+
+  module _ (short : length m ≤ limit) where
+    pub read-fault : (n p : ℕ) → memberOf m lent valueLevels bracket (skip m 0) 0 ≡ fault n p → read m lent ≡ fault n p
+    unfolding read guard _>>_ _>>=_ memberOf items
+    read-fault n p e = rw (le-leb _ _ short, e)
+
+    module _ (f : Forest) (next : ℕ) (value : memberOf m lent valueLevels bracket (skip m 0) 0 ≡ done (f, next)) where
+      pub read-more : (skip m next ≡ length m → ⊥) → read m lent ≡ fault bytesAfter (skip m next)
+      unfolding read guard _>>_ _>>=_ memberOf items
+      read-more h = rw (le-leb _ _ short, value, ne-eqb _ _ h)
+
+      pub read-done : skip m next ≡ length m → read m lent ≡ done f
+      unfolding read guard _>>_ _>>=_ memberOf items
+      read-done h = rw (le-leb _ _ short, value, eq-eqb _ _ h)
+
+    pub read-lies : (next row : ℕ) (before after : List ℕ) → Laid (memberOf m lent valueLevels bracket (skip m 0) 0) 0 1 before after next row
+        → skip m next ≡ length m → Lies (read m lent) before after row
+    unfolding allRows
+    read-lies next row before after l h =
+        record { forest = l .forest; read = read-done (l .forest) next (l .read) h; took = omega (arith, l .took); lie = l .lie }
+
+-- ---- the answer, and the words
+
+pub used : (o : Outcome Forest) (before after : List ℕ) (row : ℕ) → Lies o before after row → done row ≡ rowsUsed o
+unfolding rowsUsed
+used o before after row l = rw (l .read, l .took)
+
+pub refused : (o : Outcome Forest) (n p : ℕ) → o ≡ fault n p → fault n p ≡ rowsUsed o
+unfolding rowsUsed
+refused o n p e = rw e
+
+pub words-filled : (o : Outcome Forest) (words : ℕ) (after : List ℕ) (row : ℕ) → Lies o (zeros words) after row → row * 8 ≤ words → after ≡ wordsAfter words o
+unfolding wordsAfter allWords allRows
+words-filled o words after row l h =
+    l .lie ∙ lay-zeros words (rows 0 (l .forest)) (omega (arith, length-rows 0 (l .forest), l .took)) ∙ sym (rw (l .read))
+
+pub words-zero : (o : Outcome Forest) (words n p : ℕ) → o ≡ fault n p → zeros words ≡ wordsAfter words o
+unfolding wordsAfter
+words-zero o words n p e = rw e

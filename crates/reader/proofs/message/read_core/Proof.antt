@@ -1,0 +1,73 @@
+-- `read_core`: the limit, the value, and what follows it. Assumes nothing.
+use Prim.Native.Nat.{ℕ, _+_, _*_, _/_, _≤_, _<_, max}
+use mathlib.Core.Path.{_≡_, refl, sym, ap, _∙_}
+use native.Mathlib.Omega.{arith}
+use borrow.Author.Needs.{needs}
+use lib.ListN.{length}
+use Rattle.format.specs.Bytes.{skip}
+use Rattle.reader.proofs.MessageCases.{read-long, read-fault, read-more, read-lies}
+use Rattle.reader.proofs.message.read_core.Statement.{statement}
+use Rattle.reader.proofs.message.read_core.Tie as tie
+
+cast-if1 : tie.Need-cast-if1
+cast-if1 c =
+    search needs
+
+returns : tie.Need-returns
+returns c =
+    (read-long _ _ (c .if1 .taken), tt)
+
+skip-requires : tie.Need-skip-requires
+skip-requires c κs =
+    search needs
+
+member-requires : tie.Need-member-requires
+member-requires c κs =
+    let s = c .before .skip .ensures .1 in omega arith
+
+enum-known-n : tie.Need-enum-known-n
+enum-known-n c =
+    search needs
+
+enum-known-next : tie.Need-enum-known-next
+enum-known-next c =
+    search needs
+
+skip-requires-2 : tie.Need-skip-requires-2
+skip-requires-2 c κs =
+    search needs
+
+same-length : tie.Need-same-length
+same-length c =
+    omega arith
+
+returns-2 : tie.Need-returns-2
+returns-2 c =
+    let e = c .before .before .before .next .given .1 in
+    let l = rw (c .before .before .before .before .before .before .before .before .before .skip .ensures .0) at (rw e at (c .before .before .before .before .before .before .before .member .ensures .0)) in
+    let s = c .before .skip2 .ensures in
+    (rw (s .0) (read-more _ _ (c .before .before .before .before .before .before .before .before .before .before .if1 .left) (l .forest) _ (l .read) (rw (← s .0) (λ q. omega (arith, q, c .if2 .taken)))), tt)
+
+same-length-2 : tie.Need-same-length-2
+same-length-2 c =
+    omega arith
+
+returns-3 : tie.Need-returns-3
+returns-3 c =
+    let e = c .before .n .given .1 in
+    (read-fault _ _ (c .before .before .before .before .before .before .before .before .if1 .left) _ _ (rw (c .before .before .before .before .before .before .before .skip .ensures .0) at (rw e at (c .before .before .before .before .before .member .ensures .0))), tt)
+
+same-length-3 : tie.Need-same-length-3
+same-length-3 c =
+    omega arith
+
+returns-4 : tie.Need-returns-4
+returns-4 c =
+    let e = c .before .before .before .next .given .1 in
+    let l = rw (c .before .before .before .before .before .before .before .before .before .skip .ensures .0) at (rw e at (c .before .before .before .before .before .before .before .member .ensures .0)) in
+    let w = rw e at (c .before .before .before .before .before .before .before .member .ensures .1) in
+    let s = c .before .skip2 .ensures in
+    (read-lies _ _ (c .before .before .before .before .before .before .before .before .before .before .if1 .left) _ _ _ _ l (rw (← s .0) (omega arith)), w .rowLent)
+
+pub read-core-spec : {M : Type 1} → statement M
+read-core-spec = tie.close (tie.spec cast-if1 returns skip-requires member-requires enum-known-n enum-known-next skip-requires-2 same-length returns-2 same-length-2 returns-3 same-length-3 returns-4)

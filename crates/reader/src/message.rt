@@ -1,0 +1,66 @@
+// A whole message: one value, with any number of `N` before and after.
+use crate::values::member;
+use format::answers::Answer;
+use rows::clear;
+use rows::count;
+use scan::integers::LIMIT;
+use scan::noops::skip;
+use tokens::Step;
+ghost use mathlib.Core.Path.{_≡_};
+ghost use lib.ListN.{length};
+ghost use Rattle.format.specs.Read.{read as readOf, readInto, rowsUsed, wordsAfter};
+ghost use Rattle.format.specs.Panel.{rowsNeeded};
+ghost use Rattle.format.specs.Answers.{answered};
+ghost use Rattle.reader.specs.Message.{WholeMeets, WholeWithin};
+
+// How deep values may nest.
+const LEVELS: usize = 32;
+
+// The message, with so many rows lent, of which those are stored that the table has.
+fn read_core(message: &[u8], rows: &mut [u32], lent: usize) -> Step
+    ensures meets { λ r. ⌜ WholeMeets r (readOf (now (message .entry)) lent) (now (rows .entry)) (now (rows .exit)) ⌝ }
+    ensures bounds { λ r. ⌜ WholeWithin r lent ⌝ }
+{
+    let end = message.len();
+    if (LIMIT as usize) < end {
+        return Step::Fault(1, 0);
+    }
+    let at = skip(message, 0);
+    match member(message, rows, lent, LEVELS, false, at, 0) {
+        Step::Fault(n, p) => Step::Fault(n, p),
+        Step::Next(next, row) => {
+            let after = skip(message, next);
+            if after < end {
+                return Step::Fault(9, after);
+            }
+            Step::Next(after, row)
+        }
+    }
+}
+
+// Reads a message into lent rows: the rows used, or a refusal's number and place. What isn't filled is zero, on refusal all.
+pub fn read(message: &[u8], rows: &mut [u32]) -> Answer
+    ensures answer { λ r. ⌜ answered r ≡ rowsUsed (readInto (now (message .entry)) (now (rows .entry))) ⌝ }
+    ensures words { λ _. ⌜ now (rows .exit) ≡ wordsAfter (length (now (rows .entry))) (readInto (now (message .entry)) (now (rows .entry))) ⌝ }
+{
+    let lent = count(rows);
+    clear(rows);
+    match read_core(message, rows, lent) {
+        Step::Fault(n, p) => {
+            clear(rows);
+            Answer::Refused(n, p)
+        }
+        Step::Next(_, row) => Answer::Done(row),
+    }
+}
+
+// The rows that a message needs, or a refusal's number and place, with no table: rows count as enough.
+pub fn rows_needed(message: &[u8]) -> Answer
+    ensures { λ r. ⌜ answered r ≡ rowsNeeded (now (message .entry)) ⌝ }
+{
+    let mut none = [0u32; 0];
+    match read_core(message, &mut none, message.len()) {
+        Step::Fault(n, p) => Answer::Refused(n, p),
+        Step::Next(_, row) => Answer::Done(row),
+    }
+}
