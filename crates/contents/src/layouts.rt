@@ -4,6 +4,9 @@ use crate::walk::after_key;
 use crate::walk::closed;
 use crate::walk::group;
 use crate::walk::kind;
+use format::limits::LIMIT;
+use format::limits::RECORD_LIMIT;
+use format::limits::SCHEMA_LEVELS;
 ghost use mathlib.Core.Path.{_≡_};
 ghost use Prim.Native.Nat.{ℕ, _≤_};
 ghost use Rattle.format.specs.Tokens.{Forest, belowFirst};
@@ -13,6 +16,12 @@ ghost use Rattle.contents.specs.Least.{nowhere, farthest, least, inColum
 ghost use Rattle.tokens.specs.Answers.{openingOf};
 ghost use Rattle.contents.specs.Walks.{Sound, Ends};
 ghost use Rattle.contents.specs.Tables.{TableAt, FieldWalks};
+
+// The levels that are left for a field's kind.
+const KIND_LEVELS: usize = SCHEMA_LEVELS - 1;
+
+// Over every place: nothing is wrong.
+const NOWHERE: usize = LIMIT as usize + 1;
 
 // One field by columns: its width, then its leaves.
 fn field(message: &[u8], at: usize, count: usize, place: usize, best: usize) -> Walk
@@ -25,19 +34,19 @@ fn field(message: &[u8], at: usize, count: usize, place: usize, best: usize) -> 
         place,
         best,
     };
-    let first = kind(message, 7, at, 65_536, 0, 0, best);
+    let first = kind(message, KIND_LEVELS, at, RECORD_LIMIT, 0, 0, best);
     let wide = first.place;
-    if 65_536 < wide {
+    if RECORD_LIMIT < wide {
         return off;
     }
-    if 1_048_576 < count {
+    if NOWHERE <= count {
         return off;
     }
     let taken = count * wide;
     if 2_097_152 - place < taken {
         return off;
     }
-    let walk = kind(message, 7, at, wide, count, place, best);
+    let walk = kind(message, KIND_LEVELS, at, wide, count, place, best);
     let next = walk.next;
     let low = walk.best;
     Walk {
@@ -55,11 +64,11 @@ fn by_columns(message: &[u8], schema: usize, count: usize, start: usize) -> usiz
 {
     let end = message.len();
     if end <= schema {
-        return 1_048_577;
+        return NOWHERE;
     }
     let mut i = schema + 1;
     let mut place = start;
-    let mut low = 1_048_577;
+    let mut low = NOWHERE;
     while i < end {
         let from = after_key(message, true, i);
         let walk = field(message, from, count, place, low);
@@ -70,11 +79,11 @@ fn by_columns(message: &[u8], schema: usize, count: usize, start: usize) -> usiz
             return low;
         }
         if next <= i {
-            return 1_048_577;
+            return NOWHERE;
         }
         i = next;
     }
-    1_048_577
+    NOWHERE
 }
 
 // The least place of a wrong value, by rows.
@@ -83,7 +92,16 @@ fn by_rows(message: &[u8], schema: usize, wide: usize, count: usize, start: usiz
     ensures is { λ r. ⌜ ((lent row next : ℕ) (s : Forest) → TableAt (now (message .entry)) schema wide count start lent row next s → r ≡ inColumns (now (message .entry)) wide count (belowFirst s) start) ⌝ }
     ensures bounds { λ r. ⌜ r ≤ nowhere ⌝ }
 {
-    let walk = group(message, 8, true, schema, wide, count, start, 1_048_577);
+    let walk = group(
+        message,
+        SCHEMA_LEVELS,
+        true,
+        schema,
+        wide,
+        count,
+        start,
+        NOWHERE,
+    );
     walk.best
 }
 

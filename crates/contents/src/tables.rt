@@ -1,6 +1,8 @@
 // The content of a table's payload.
 use crate::Checked;
 use crate::layouts::lowest;
+use format::limits::LIMIT;
+use format::limits::RECORD_LIMIT;
 ghost use mathlib.Core.Path.{_≡_};
 ghost use Prim.Native.Nat.{ℕ};
 ghost use Rattle.format.specs.Tokens.{Forest, belowFirst};
@@ -10,6 +12,9 @@ ghost use Rattle.format.specs.Content.{contents};
 ghost use Rattle.tokens.specs.Answers.{openingOf};
 ghost use Rattle.contents.specs.Tables.{TableAt};
 ghost use Rattle.contents.specs.Answers.{checkedOf};
+
+// The last place of a message.
+const MOST: usize = LIMIT as usize;
 
 // The content of a table's payload. `schema` is the place of the schema's first byte, `wide` a record's width.
 pub fn table_contents(
@@ -22,14 +27,14 @@ pub fn table_contents(
 ) -> Checked
     ensures { λ r. ⌜ ((lent row next n : ℕ) (s : Forest) → TableAt (now (message .entry)) schema wide count start lent row next s → checkedOf r ≡ contents (now (message .entry)) start (records (openingOf brace) n (belowFirst s) (below count))) ⌝ }
 {
-    if 65_536 < wide {
+    if RECORD_LIMIT < wide {
         return Checked::Right;
     }
-    if 1_048_576 < start {
+    if MOST < start {
         return Checked::Right;
     }
     let place = lowest(message, brace, schema, wide, count, start);
-    if 1_048_576 < place {
+    if MOST < place {
         return Checked::Right;
     }
     Checked::Wrong(place)

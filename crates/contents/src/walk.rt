@@ -2,12 +2,12 @@
 use crate::columns::Walk;
 use crate::columns::byte_at;
 use crate::columns::leaf;
+use format::limits::LIMIT;
 use format::marks::ARRAY;
 use format::marks::ARRAY_END;
 use format::marks::Mark;
 use format::marks::OBJECT;
 use format::marks::OBJECT_END;
-use scan::integers::LIMIT;
 use scan::integers::Parsed;
 use scan::integers::number;
 ghost use mathlib.Core.Path.{_≡_};

@@ -1,9 +1,9 @@
 // A whole message: one value, with any number of `N` before and after.
 use crate::values::member;
 use format::answers::Answer;
+use format::limits::LIMIT;
 use rows::clear;
 use rows::count;
-use scan::integers::LIMIT;
 use scan::noops::skip;
 use tokens::Step;
 ghost use mathlib.Core.Path.{_≡_};

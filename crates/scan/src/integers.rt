@@ -1,4 +1,5 @@
 // Integers that are lengths, counts and dimensions.
+use format::limits::LIMIT;
 use format::marks::Mark;
 ghost use mathlib.Core.Path.{_≡_};
 ghost use Prim.Native.Nat.{_+_, _≤_};
@@ -8,9 +9,6 @@ ghost use Rattle.format.specs.Marks.{width};
 ghost use Rattle.format.specs.Bytes.{little, bytes};
 ghost use Rattle.format.specs.Integers.{isNegative, number as numberIn, integer as integerIn};
 ghost use Rattle.scan.specs.Numbers.{littleAt, parsed, Bounded};
-
-// The highest length, count or dimension.
-pub const LIMIT: u32 = 1_048_576;
 
 // The little-endian number of the `width` bytes from `at` on; 0 where they aren't all there, or are more than eight.
 pub fn little_endian(message: &[u8], at: usize, width: usize) -> u64

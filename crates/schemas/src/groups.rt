@@ -4,6 +4,7 @@ use crate::starts::Start;
 use crate::starts::field_start;
 use crate::starts::kind_start;
 use format::answers::Kind;
+use format::limits::SCHEMA_LEVELS;
 use format::marks::ARRAY;
 use format::marks::ARRAY_END;
 use format::marks::OBJECT;
@@ -20,9 +21,6 @@ ghost use Rattle.format.specs.Schemas.{tableSchema};
 ghost use Rattle.rows.specs.Row.{store as storeIn};
 ghost use Rattle.tokens.specs.Answers.{Here};
 ghost use Rattle.schemas.specs.Answers.{over, stands as standsIn, groupAt, arrayAt, recordAt, Meets, Within};
-
-// How deep schemas nest.
-const LEVELS: usize = 8;
 
 // Whether a byte is there, and is this one.
 fn stands(message: &[u8], at: usize, mark: u8) -> bool
@@ -163,5 +161,5 @@ pub fn table_schema(message: &[u8], rows: &mut [u32], lent: usize, at: usize, ro
     if lent <= row {
         return Kinds::Fault(8, at);
     }
-    record_kinds(message, rows, lent, LEVELS - 1, at, row, 0)
+    record_kinds(message, rows, lent, SCHEMA_LEVELS - 1, at, row, 0)
 }

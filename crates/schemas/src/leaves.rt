@@ -1,6 +1,7 @@
 // The leaves of a schema.
 use crate::Kinds;
 use format::answers::Kind;
+use format::limits::RECORD_LIMIT;
 use format::marks::Mark;
 use format::marks::TEXT;
 use scan::integers::Parsed;
@@ -17,7 +18,7 @@ ghost use Rattle.tokens.specs.Answers.{Here};
 ghost use Rattle.schemas.specs.Answers.{over, Meets, Within};
 
 // One more than the bytes that a record may have.
-pub const OVER: usize = 65_537;
+pub const OVER: usize = RECORD_LIMIT + 1;
 
 // The offset after so many bytes.
 fn offset_after(offset: usize, width: usize) -> usize

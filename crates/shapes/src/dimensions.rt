@@ -1,8 +1,8 @@
 // A dimension: an integer record, or a bare integer whose mark was given before.
 use crate::Dims;
 use format::answers::Kind;
+use format::limits::LIMIT;
 use format::marks::Mark;
-use scan::integers::LIMIT;
 use scan::integers::Parsed;
 use scan::integers::number;
 use tokens::entry::Entry;

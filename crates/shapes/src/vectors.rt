@@ -3,6 +3,7 @@ use crate::Dims;
 use crate::dimensions::Form;
 use crate::dimensions::item;
 use crate::dimensions::marked;
+use format::limits::LIMIT;
 use format::marks::ARRAY_END;
 use format::marks::COUNT;
 use format::marks::Mark;
@@ -20,9 +21,9 @@ ghost use Rattle.tokens.specs.Answers.{Here};
 ghost use Rattle.shapes.specs.Answers.{capped, Meets, Within, itemOf, Wide};
 
 // The highest product, and the most that one is said to be.
-const MOST: usize = 1_048_576;
+const MOST: usize = LIMIT as usize;
 
-const OVER: usize = 1_048_577;
+const OVER: usize = MOST + 1;
 
 // The product of two numbers, each at most one over the limit; one over it where it would be more.
 fn times(many: usize, n: usize) -> usize

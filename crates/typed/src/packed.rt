@@ -2,8 +2,8 @@
 use contents::Checked;
 use contents::packed::packed_contents;
 use format::answers::Kind;
+use format::limits::LIMIT;
 use format::marks::Mark;
-use scan::integers::LIMIT;
 use shapes::counts::Shaped;
 use shapes::counts::shape;
 use tokens::Step;

@@ -3,8 +3,9 @@ use crate::packed::store_row;
 use containers::lists::opening_mark;
 use contents::tables::table_contents;
 use format::answers::Kind;
+use format::limits::LIMIT;
+use format::limits::RECORD_LIMIT;
 use format::marks::COUNT;
-use scan::integers::LIMIT;
 use schemas::Kinds;
 use schemas::groups::table_schema;
 use shapes::counts::Shaped;
@@ -18,9 +19,6 @@ ghost use lib.ListN.{length};
 ghost use Rattle.format.specs.Containers.{table as tableAt};
 ghost use Rattle.tokens.specs.Answers.{openingOf, Meets, Here, Within};
 ghost use Rattle.typed.specs.Tables.{HeaderRead, HeaderWithin};
-
-// A record's bytes at most.
-const RECORD_LIMIT: usize = 65_536;
 
 // The table at `at`, once its schema, of `wide` bytes, and its count are read: `link` is the row after those of both.
 fn table_payload(

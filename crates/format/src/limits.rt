@@ -1,0 +1,10 @@
+// The limits that more than one crate tests.
+
+// Of a message's bytes, of a length, a count, a dimension and a product of dimensions.
+pub const LIMIT: u32 = 1_048_576;
+
+// Of a record's bytes.
+pub const RECORD_LIMIT: usize = 65_536;
+
+// Of a schema's nesting, the outer schema being 1.
+pub const SCHEMA_LEVELS: usize = 8;
