@@ -17,6 +17,7 @@ use Rattle.format.specs.Bytes.{byte}
 use Rattle.format.specs.Sequences.{Reader, rowLeft, until}
 use Rattle.format.specs.Schemas.{group, enclosed, schema, fixed, kindBy, groupBy, nested}
 use Rattle.format.specs.Refusals.{noRowLeft}
+use Rattle.format.proofs.Forests.{width-append}
 use Rattle.laws.proofs.Holds.{of-done}
 use Rattle.laws.proofs.Schemas.{groupKind}
 use Rattle.laws.proofs.Bounds.{Bounded, byte-law, kindBy-bounded, schema-bounded}
@@ -27,7 +28,7 @@ use Rattle.contents.specs.Walks.{Walks}
 use Rattle.contents.specs.declared.columns.Walk.{Walk}
 use Rattle.contents.proofs.LeafByLeaf.{columns-most}
 use Rattle.contents.proofs.Inverse.{never, done-pair, bind-done, then-done, Both}
-use Rattle.contents.proofs.Members.{KeyRead, keyed-plain, keyed-read, Sums, wide-append, run, Rest, rest-turn, rest-there, rest-on, rest-closed, rest-next}
+use Rattle.contents.proofs.Members.{KeyRead, keyed-plain, keyed-read, Sums, run, Rest, rest-turn, rest-there, rest-on, rest-closed, rest-next}
 
 -- ---- where a member's kind begins
 
@@ -205,7 +206,7 @@ pub group-turned : (m : List ℕ) (lent l : ℕ) (b : Bool) (stride n : ℕ) {mo
 group-turned m lent l b stride n {place = place} {place′ = place′} r from w fits a walks =
     let t = turn m lent l b r in
     let k = turn-keyed m lent l b r from a in
-    let e = ap totalWidth (t .is) ∙ wide-append (t .former) (t .latter) in
+    let e = ap totalWidth (t .is) ∙ width-append (t .former) (t .latter) in
     let p = r .onward in
     let q = k .alike .wide in
     let h : place + totalWidth (k .member) ≤ place′ = omega arith in

@@ -19,6 +19,7 @@ use Rattle.format.specs.Sequences.{Reader, rowLeft, _⨾_, until}
 use Rattle.format.specs.Content.{payloadEnd}
 use Rattle.format.specs.Scalars.{key}
 use Rattle.format.specs.Schemas.{schema, fixed}
+use Rattle.format.proofs.Forests.{append-none, width-append}
 use Rattle.laws.proofs.Holds.{of-done}
 use Rattle.laws.proofs.Loops.{until-step}
 use Rattle.laws.proofs.Bounds.{Bounded, byte-law, oneOf-law, payloadEnd-law, key-bounded, seq-bounded, eased}
@@ -29,26 +30,16 @@ use Rattle.contents.proofs.Inverse.{done-pair, bind-done, then-done, Bo
 
 -- ---- sums and leasts over forests
 
-pub append-none : (f : Forest) → f ⊕ none ≡ f
-unfolding _⊕_
-append-none none = refl
-append-none (node t below after) = rw (append-none after)
-
-pub wide-append : (f g : Forest) → totalWidth (f ⊕ g) ≡ totalWidth f + totalWidth g
-unfolding totalWidth _⊕_
-wide-append none g = omega arith
-wide-append (node t below after) g = let e = wide-append after g in omega arith
-
 -- a sum over tokens, and a least that goes by it
 pub record Sums (adv : Forest → ℕ) (low : Forest → ℕ → ℕ) : Type 0 where
   pub sum : (f g : Forest) → adv (f ⊕ g) ≡ adv f + adv g
   pub lower : (f g : Forest) (place : ℕ) → low (f ⊕ g) place ≡ min (low f place) (low g (place + adv f))
 
 pub columns-sum : (m : List ℕ) (stride n : ℕ) → Sums totalWidth (inColumns m stride n)
-columns-sum m stride n = record { sum = wide-append; lower = columns-append m stride n }
+columns-sum m stride n = record { sum = width-append; lower = columns-append m stride n }
 
 pub fields-sum : (m : List ℕ) (n : ℕ) → Sums (λ f. n * totalWidth f) (inFields m n)
-fields-sum m n = record { sum = λ f g. rw (wide-append f g) (mul-add n (totalWidth f) (totalWidth g)); lower = fields-append m n }
+fields-sum m n = record { sum = λ f g. rw (width-append f g) (mul-add n (totalWidth f) (totalWidth g)); lower = fields-append m n }
 
 -- ---- keys
 
@@ -211,7 +202,7 @@ module _ (m : List ℕ) (lent : ℕ) (kind : Reader) where
               end = r .end;
               reads = y;
               ended = r .ended;
-              within = let v = r .within in let e = ap totalWidth i ∙ wide-append f g in omega arith;
+              within = let v = r .within in let e = ap totalWidth i ∙ width-append f g in omega arith;
               onward = omega arith;
               lowest = rw moved (omega (arith, l));
             }

@@ -18,6 +18,7 @@ use Rattle.format.specs.Records.{memberWidth, totalWidth}
 use Rattle.format.specs.Bytes.{bytes}
 use Rattle.format.specs.Content.{isContent, content, contents}
 use Rattle.format.specs.Storage.{Slot, endToEnd, leaves, byRows, byColumns, records}
+use Rattle.format.proofs.Forests.{leaf-width}
 use Rattle.laws.proofs.Slots.{Measured, nothing, wide}
 use Rattle.contents.specs.Least.{nowhere, wrongAt, least}
 
@@ -45,10 +46,6 @@ unfolding endToEnd
 endToEnd-tiled [] w cut c at = nil {from = at} (omega arith)
 endToEnd-tiled (a ∷ l) w cut c at =
     tiled-append (c a at) (tiled-widen (at + w) _ (omega arith) (omega (arith, suc-mul (length l) w)) (endToEnd-tiled l w cut c (at + w)))
-
-leaf-width : (t : Token) → isKind leafKind (t .kind) ≡ true → memberWidth t ≡ t .extent
-unfolding memberWidth isKind if_then_else_
-leaf-width t h = rw (← eqb-true (kindNumber leafKind) (kindNumber (t .kind)) h)
 
 leaves-tiled : {f : Forest} → Measured f → (n a at : ℕ) → Tiled (at + totalWidth f) at (leaves n f a at)
 unfolding leaves totalWidth

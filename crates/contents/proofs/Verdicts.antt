@@ -18,6 +18,7 @@ use Rattle.format.specs.Indexes.{below}
 use Rattle.format.specs.Storage.{records}
 use Rattle.format.specs.Content.{contents}
 use Rattle.format.specs.Schemas.{leaf, group, plainLeaf, textLeaf, kindBy, nested, tableSchema}
+use Rattle.format.proofs.Forests.{width-append}
 use Rattle.laws.proofs.Holds.{Holds, refused, holds, bind-law, then-law, if-law, other, any-law, of-done}
 use Rattle.laws.proofs.Schemas.{group-one, tableSchema-gives}
 use Rattle.laws.proofs.Slots.{members-measured, below-measured, length-count}
@@ -27,7 +28,6 @@ use Rattle.contents.specs.Tables.{TableAt, FieldFits, FieldOver, FieldWa
 use Rattle.contents.specs.declared.columns.Walk.{Walk}
 use Rattle.contents.proofs.Tiles.{records-tiled, verdict, contents-least}
 use Rattle.contents.proofs.LeafByLeaf.{columns-most, fields-most, least-rows, least-by-columns}
-use Rattle.contents.proofs.Members.{wide-append}
 use Rattle.contents.proofs.Groups.{kindOf, Opened, opened, not-nested, group-wide, group-columns, group-below, rest-start, RestOf, Afters, turn, turn-keyed, Turned}
 
 -- ---- a kind is one token, with those below it
@@ -101,7 +101,7 @@ pub fields-turned : (m : List ℕ) (lent n : ℕ) {most i place best next place�
 fields-turned m lent n {most = most} {place = place} {place′ = place′} r from w narrow few short inside a walks =
     let t = turn m lent 7 true r in
     let k = turn-keyed m lent 7 true r from a in
-    let e = ap totalWidth (t .is) ∙ wide-append (t .former) (t .latter) in
+    let e = ap totalWidth (t .is) ∙ width-append (t .former) (t .latter) in
     let s = ap (λ (x : ℕ). n * x) e ∙ mul-add n (totalWidth (t .former)) (totalWidth (t .latter)) in
     let p = r .onward in
     let v = r .within in

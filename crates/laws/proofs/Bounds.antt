@@ -25,16 +25,12 @@ use Rattle.format.specs.Dimensions as Dimensions
 use Rattle.format.specs.Schemas as Schemas
 use Rattle.format.specs.Containers as Containers
 use Rattle.format.specs.Read as Read
-use Rattle.format.proofs.MarkFacts.{among-passes, integer-wide}
+use Rattle.format.proofs.MarkFacts.{type-wide, integer-wide}
+use Rattle.format.proofs.Forests.{size-append}
 use Rattle.laws.proofs.Holds.{Holds, refused, holds, bind-law, then-law, if-law, seq-law, other, guard-law, weaken, relax, both}
 use Rattle.laws.proofs.Schemas.{groupKind, group-one, tableSchema-gives}
 use Rattle.laws.proofs.Skips.{skip-on, skip-inside}
-use Rattle.laws.proofs.Order.{isCut, isOffset, Room, whole, offset, InOrder, nothing, token, order-size, order-widen, order-append, size-append, group-kind, order-placed, size-placed}
-
--- a type's mark has bytes
-type-wide : (mark : ℕ) → isType mark ≡ true → 0 < width mark
-unfolding isType types integers all width among if_then_else_
-type-wide mark h = ltb-true 0 (width mark) (among-passes (λ k. ltb 0 (width k)) types mark refl h)
+use Rattle.laws.proofs.Order.{isCut, isOffset, Room, whole, offset, InOrder, nothing, token, order-size, order-widen, order-append, group-kind, order-placed, size-placed}
 
 -- ---- bytes, content and integers
 

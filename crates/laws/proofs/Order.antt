@@ -58,11 +58,6 @@ unfolding _⊕_
 order-append {low} {mid} {high} (stop h) r = order-widen low high h (omega arith) r
 order-append (step h u r a) b = step h u r (order-append a b)
 
-pub size-append : (f g : Forest) → size (f ⊕ g) ≡ size f + size g
-unfolding size _⊕_
-size-append none g = omega arith
-size-append (node t below after) g = let e = size-append after g in omega arith
-
 -- ---- a schema's tokens when they are given their offsets
 
 -- the kinds of a schema's tokens beside keys

@@ -14,11 +14,12 @@ use Rattle.format.specs.Rows.{allRows}
 use Rattle.format.specs.Bytes.{skip}
 use Rattle.format.specs.Sequences.{spaced}
 use Rattle.format.specs.Read.{read}
+use Rattle.format.proofs.Forests.{length-rows}
 use Rattle.laws.specs.Rising.{Rising}
 use Rattle.laws.proofs.Holds.{of-done, of-short}
 use Rattle.laws.proofs.Skips.{skip-inside}
 use Rattle.laws.proofs.Order.{order-size}
-use Rattle.laws.proofs.Rows.{length-rows, rows-rising}
+use Rattle.laws.proofs.Rows.{rows-rising}
 use Rattle.laws.proofs.Bounds.{value-bounded, read-bounded}
 use Rattle.laws.proofs.Keeps.{same, bind-keeps, then-keeps, bind-refuses, unless-free}
 use Rattle.laws.proofs.Added.{Added, value-keeps, end-refuses}

@@ -1,4 +1,4 @@
--- The rows of a forest: as many as tokens, and in order if the tokens are. Assumes nothing.
+-- The rows of a forest are in order if its tokens are. Assumes nothing.
 use Prim.Native.Nat.{ℕ, suc, _+_, _≤_, _<_}
 use mathlib.Core.Path.{_≡_, refl, ap, _∙_}
 use mathlib.Core.List.{List, _++_}
@@ -10,19 +10,13 @@ use Rattle.format.specs.Rows.{Row, rowOf, rows}
 use Rattle.laws.specs.Rising.{Rising, noRow, nextRow}
 use Rattle.laws.proofs.Order.{InOrder, stop, step, order-size}
 
-pub length-rows : (n : ℕ) (f : Forest) → length (rows n f) ≡ size f
-unfolding rows size
-length-rows n none = refl
-length-rows n (node t below after) =
-    ap suc (length-append (rows (suc n) below) _ ∙ simp (length-rows (suc n) below, length-rows (suc n + size below) after))
-
 rising-from : {low high : ℕ} {l : List Row} (low′ : ℕ) → low′ ≤ low → Rising low high l → Rising low′ high l
 rising-from low′ h noRow = noRow
 rising-from low′ h (nextRow k i r) = nextRow (le-trans h k) i r
 
 rising-append : {low mid high : ℕ} {l k : List Row} → low ≤ mid → mid ≤ high → Rising low mid l → Rising mid high k → Rising low high (l ++ k)
 rising-append h i noRow s = rising-from _ h s
-rising-append h i (nextRow j k r) s = nextRow j (le-trans k i) (rising-append k i r s)
+rising-append h i (nextRow j k r) s = nextRow j (le-trans k i) (rising-append (omega arith) i r s)
 
 pub rows-rising : {low high : ℕ} {f : Forest} (n : ℕ) → InOrder low high f → Rising low high (rows n f)
 unfolding rows rowOf
@@ -30,5 +24,4 @@ rows-rising n (stop h) = noRow
 rows-rising {high = high} n (step {t = t} {below = below} h u r a) =
     let x = order-size u in
     let y = order-size a in
-    let k : t .first < high = omega arith in
-    nextRow h k (rising-append (omega arith) (omega arith) (rows-rising (suc n) u) (rising-from _ (r .on) (rows-rising (suc n + size below) a)))
+    nextRow {high = high} h (omega arith) (rising-append (omega arith) (omega arith) (rows-rising (suc n) u) (rising-from _ (r .on) (rows-rising (suc n + size below) a)))

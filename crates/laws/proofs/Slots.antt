@@ -13,6 +13,7 @@ use Rattle.format.specs.Tokens.{Token, kindNumber, leaf as leafKind, isKind, Fo
 use Rattle.format.specs.Records.{memberWidth, totalWidth}
 use Rattle.format.specs.Indexes.{countFrom}
 use Rattle.format.specs.Storage.{Slot, endToEnd, elements, leaves, byRows, byColumns, records}
+use Rattle.format.proofs.Forests.{leaf-width}
 use Rattle.laws.proofs.Schemas.{groupKind, Members, noMore, key, leaf, group}
 use Rattle.laws.proofs.Order.{OfSchema, group-kind}
 
@@ -20,10 +21,6 @@ use Rattle.laws.proofs.Order.{OfSchema, group-kind}
 pub data Measured : Forest → Type 0 where
   nothing : Measured none
   wide : {t : Token} {below after : Forest} → totalWidth below ≤ memberWidth t → Measured below → Measured after → Measured (node t below after)
-
-leaf-width : (t : Token) → isKind leafKind (t .kind) ≡ true → memberWidth t ≡ t .extent
-unfolding memberWidth isKind if_then_else_
-leaf-width t h = rw (← eqb-true (kindNumber leafKind) (kindNumber (t .kind)) h)
 
 module _ {A : Type 0} where
   -- every slot ends by `end`

@@ -13,11 +13,12 @@ use Rattle.format.specs.Sequences.{Reader, spaced}
 use Rattle.format.specs.Scalars.{key}
 use Rattle.format.specs.Containers.{items}
 use Rattle.format.specs.Read.{valueBy}
+use Rattle.format.proofs.Forests.{size-append, members-append}
 use Rattle.rows.specs.Overlay.{lay}
 use Rattle.tokens.specs.Answers.{openingOf, onto, Laid, Meets, Within}
 use Rattle.tokens.specs.declared.Step.{Step}
 use Rattle.tokens.specs.declared.Step.the-variants.{Fault as Stopped, Next as Went}
-use Rattle.tokens.proofs.Sofar.{size-append, members-append, lay-forest, seq-read, seq-fault, onto-none, onto-onto, onto-fault, laid-after, laid-onto}
+use Rattle.tokens.proofs.Sofar.{lay-forest, seq-read, seq-fault, onto-none, onto-onto, onto-fault, laid-after, laid-onto}
 use Rattle.reader.specs.Items.{itemOf, Opened, ItemMeets, ItemWithin}
 use Rattle.reader.specs.declared.items.Item.{Item}
 use Rattle.reader.specs.declared.items.Item.the-variants.{Fault, Next, Opens}

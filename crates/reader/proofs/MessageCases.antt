@@ -15,10 +15,10 @@ use Rattle.format.specs.Rows.{rows, rowsIn, allRows, allWords, zeros}
 use Rattle.format.specs.Bytes.{skip}
 use Rattle.format.specs.Containers.{items}
 use Rattle.format.specs.Read.{read, rowsUsed, wordsAfter}
+use Rattle.format.proofs.Forests.{length-rows}
 use Rattle.rows.specs.Overlay.{lay}
 use Rattle.rows.proofs.Overlay.{lay-zeros}
 use Rattle.tokens.specs.Answers.{Laid}
-use Rattle.tokens.proofs.Sofar.{length-rows}
 use Rattle.reader.specs.Values.{memberOf}
 use Rattle.reader.specs.Message.{Lies}
 

@@ -18,10 +18,11 @@ use Rattle.format.specs.Rows.{rowOf, rows}
 use Rattle.format.specs.Bytes.{byte}
 use Rattle.format.specs.Sequences.{Reader, _⨾_, until}
 use Rattle.format.specs.Schemas.{group, enclosed}
+use Rattle.format.proofs.Forests.{append-none}
 use Rattle.rows.specs.Row.{store}
 use Rattle.laws.proofs.Bounds.{byte-starts}
 use Rattle.tokens.specs.Answers.{onto, Here}
-use Rattle.tokens.proofs.Sofar.{append-none, seq-fault}
+use Rattle.tokens.proofs.Sofar.{seq-fault}
 use Rattle.schemas.specs.Answers.{over, stands, groupAt, arrayAt, recordAt, Read, Meets, Sofar, StartMeets, Ends, Within, StartWithin}
 use Rattle.schemas.specs.declared.Kinds.{Kinds}
 use Rattle.schemas.specs.declared.starts.Start.{Start}

@@ -24,11 +24,6 @@ use Rattle.schemas.specs.Answers.{over, groupAt, Read}
 
 -- ---- one forest and then another
 
-pub width-append : (f g : Forest) → totalWidth (f ⊕ g) ≡ totalWidth f + totalWidth g
-unfolding totalWidth _⊕_
-width-append none g = omega arith
-width-append (node t below after) g = let e = width-append after g in omega arith
-
 pub placed-append : (n : ℕ) (f g : Forest) → placed n (f ⊕ g) ≡ placed n f ⊕ placed (n + totalWidth f) g
 unfolding placed totalWidth memberWidth _⊕_ if_then_else_
 placed-append n none g = rw add-zero

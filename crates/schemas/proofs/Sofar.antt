@@ -11,15 +11,16 @@ use Rattle.format.specs.Records.{totalWidth, placed}
 use Rattle.format.specs.Rows.{rows}
 use Rattle.format.specs.Sequences.{Reader, _⨾_}
 use Rattle.format.specs.Scalars.{key}
+use Rattle.format.proofs.Forests.{size-append, members-append, width-append}
 use Rattle.rows.specs.Overlay.{lay}
 use Rattle.tokens.specs.Answers.{onto, Laid}
-use Rattle.tokens.proofs.Sofar.{size-append, members-append, onto-none, onto-onto, seq-read}
+use Rattle.tokens.proofs.Sofar.{onto-none, onto-onto, seq-read}
 use Rattle.schemas.specs.Answers.{over, kindAt, fieldAt, Read, Meets, Sofar, StartMeets, Within, StartWithin}
 use Rattle.schemas.specs.declared.Kinds.{Kinds}
 use Rattle.schemas.specs.declared.Kinds.the-variants.{Fault, Next}
 use Rattle.schemas.specs.declared.starts.Start.{Start}
 use Rattle.schemas.specs.declared.starts.Start.the-variants.{Ended, Array, Record}
-use Rattle.schemas.proofs.Placing.{width-append, lay-placed, keys-width, keys-placed}
+use Rattle.schemas.proofs.Placing.{lay-placed, keys-width, keys-placed}
 
 -- nothing is read yet
 pub sofar-start : (o remains : Parsed Forest) (first offset : ℕ) (before : List ℕ) → offset ≤ over → o ≡ remains → Sofar o first offset before remains first 0 offset before

@@ -11,46 +11,12 @@ use Rattle.format.specs.Outcome.{Parsed, fault, done, _>>=_}
 use Rattle.format.specs.Tokens.{Token, Forest, none, node, size, _⊕_, members}
 use Rattle.format.specs.Rows.{rows}
 use Rattle.format.specs.Sequences.{Reader, _⨾_}
+use Rattle.format.proofs.Forests.{append-none, ⊕-assoc, size-append, members-append, length-rows, rows-append}
 use Rattle.rows.specs.Overlay.{lay}
 use Rattle.rows.proofs.Overlay.{lay-append}
 use Rattle.tokens.specs.Answers.{onto, Laid, Meets}
 use Rattle.tokens.specs.declared.Step.{Step}
 use Rattle.tokens.specs.declared.Step.the-variants.{Fault, Next}
-
--- ---- one forest and then another
-
-pub size-append : (f g : Forest) → size (f ⊕ g) ≡ size f + size g
-unfolding size _⊕_
-size-append none g = omega arith
-size-append (node t below after) g = let e = size-append after g in omega arith
-
-pub members-append : (f g : Forest) → members (f ⊕ g) ≡ members f + members g
-unfolding members _⊕_
-members-append none g = omega arith
-members-append (node t below after) g = let e = members-append after g in omega arith
-
-pub append-none : (f : Forest) → f ⊕ none ≡ f
-unfolding _⊕_
-append-none none = refl
-append-none (node t below after) = rw (append-none after)
-
-⊕-assoc : (f g h : Forest) → (f ⊕ g) ⊕ h ≡ f ⊕ (g ⊕ h)
-unfolding _⊕_
-⊕-assoc none g h = refl
-⊕-assoc (node t below after) g h = rw (⊕-assoc after g h)
-
-pub length-rows : (n : ℕ) (f : Forest) → length (rows n f) ≡ size f
-unfolding rows size
-length-rows n none = refl
-length-rows n (node t below after) =
-    ap suc (length-append (rows (suc n) below) _ ∙ simp (length-rows (suc n) below, length-rows (suc n + size below) after))
-
-pub rows-append : (n : ℕ) (f g : Forest) → rows n (f ⊕ g) ≡ rows n f ++ rows (n + size f) g
-unfolding rows size _⊕_
-rows-append n none g = rw add-zero
-rows-append n (node t below after) g =
-    let e : suc n + size below + size after ≡ n + suc (size below + size after) = omega arith in
-    simp (rows-append (suc n + size below) after g, e, append-assoc)
 
 -- the rows of one forest and then those of another
 pub lay-forest : (ws : List ℕ) (row : ℕ) (f g : Forest) → lay (lay ws row (rows row f)) (row + size f) (rows (row + size f) g) ≡ lay ws row (rows row (f ⊕ g))

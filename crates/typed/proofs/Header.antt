@@ -10,7 +10,8 @@ use Rattle.format.specs.Tokens.{size}
 use Rattle.format.specs.Records.{totalWidth, placed}
 use Rattle.format.specs.Dimensions.{shape}
 use Rattle.format.specs.Schemas.{tableSchema}
-use Rattle.laws.proofs.Order.{size-placed, size-append}
+use Rattle.format.proofs.Forests.{size-append}
+use Rattle.laws.proofs.Order.{size-placed}
 use Rattle.tokens.proofs.Sofar.{lay-forest}
 use Rattle.schemas.specs.Answers.{over, Read}
 use Rattle.shapes.specs.Answers.{Told}
