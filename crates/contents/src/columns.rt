@@ -19,6 +19,9 @@ ghost use Rattle.format.specs.Schemas.{leaf as leafOf, kindBy, nested};
 ghost use Rattle.contents.specs.Least.{nowhere, inColumn, Fits};
 ghost use Rattle.contents.specs.Walks.{Sound, Ends, Over, Walks};
 
+// The farthest place of a value that a walk reaches: twice the longest message.
+pub const FARTHEST: usize = 2_097_152;
+
 // How far a walk over a schema's bytes has come: the next byte, the place of the next leaf's first value, and the least place of a
 // wrong value so far.
 pub struct Walk {
@@ -121,7 +124,7 @@ fn leaf_over(
     ensures is { λ r. ⌜ ((mark ≡ 'H' → ⊥) → Fits (now (message .entry)) stride count (place + wide) → (at : ℕ) → Over (now (message .entry)) stride count place best (leafOf mark at wide) next r) ⌝ }
     ensures bounds { λ r. ⌜ Ends best r ⌝ }
 {
-    if 2_097_152 - place < wide {
+    if FARTHEST - place < wide {
         return Walk { next, place, best };
     }
     let lowest = leaf_column(message, mark, wide, stride, count, place, best);

@@ -1,4 +1,5 @@
 // The two layouts of a table's payload, by rows and by columns.
+use crate::columns::FARTHEST;
 use crate::columns::Walk;
 use crate::walk::after_key;
 use crate::walk::closed;
@@ -43,7 +44,7 @@ fn field(message: &[u8], at: usize, count: usize, place: usize, best: usize) -> 
         return off;
     }
     let taken = count * wide;
-    if 2_097_152 - place < taken {
+    if FARTHEST - place < taken {
         return off;
     }
     let walk = kind(message, KIND_LEVELS, at, wide, count, place, best);
