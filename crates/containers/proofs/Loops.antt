@@ -1,15 +1,15 @@
 -- The loops over members: where they are, and one turn of each. Assumes nothing.
 use Prim.Native.Nat.{ℕ, zero, suc, _+_, _-_, _≤_, _<_}
-use mathlib.Core.Path.{_≡_, refl, sym, ap, _∙_}
+use mathlib.Core.Path.{_≡_, refl, ap, _∙_}
 use mathlib.Core.List.{List}
 use native.Mathlib.Omega.{arith}
 use lib.ListN.{length, getD}
 use borrow.Author.Tests.{lt-ltb, le-ltb, eq-eqb, ne-eqb}
 use Rattle.format.specs.Conditions.{if_then_else_}
-use Rattle.format.specs.Outcome.{Parsed, fault, done, _>>=_, _>>_, guard}
+use Rattle.format.specs.Outcome.{fault, done, _>>=_, _>>_, guard}
 use Rattle.format.specs.Limits.{limit}
 use Rattle.format.specs.Refusals.{endsTooEarly}
-use Rattle.format.specs.Tokens.{Forest, none}
+use Rattle.format.specs.Tokens.{none}
 use Rattle.format.specs.Bytes.{byte}
 use Rattle.format.specs.Sequences.{Reader, _⨾_, repeat, until}
 use Rattle.tokens.specs.Answers.{Laid}

@@ -1,12 +1,12 @@
 -- The content of a packed array, an element at a time. Assumes nothing.
 use Prim.Native.Nat.{ℕ, zero, suc, _+_, _-_, _*_, _≤_, _<_}
-use mathlib.Core.Path.{_≡_, refl, sym, ap, subst, _∙_}
-use mathlib.Core.Bool.{Bool, true, false, not, _&&_, and-true}
+use mathlib.Core.Path.{_≡_, refl, ap, _∙_}
+use mathlib.Core.Bool.{true, false, not, and-true}
 use mathlib.Core.List.{List, [], _∷_}
 use native.Mathlib.Omega.{arith}
 use native.Mathlib.Nat.{mul-one}
 use native.Mathlib.Numerals.{add-one}
-use lib.ListN.{length, getD, take, drop}
+use lib.ListN.{length, getD}
 use lib.Seq.{drop-cons}
 use lib.Dec.{leb, eqb}
 use borrow.Author.Tests.{le-leb, lt-leb, ne-eqb, not-true}
@@ -15,7 +15,7 @@ use Rattle.format.specs.Outcome.{Outcome, fault, done, _>>=_, guard}
 use Rattle.format.specs.Refusals.{wrongContent}
 use Rattle.format.specs.Marks.{integers, types, isType, width, 'C', 'H', 'S', 'T'}
 use Rattle.format.specs.Indexes.{countFrom}
-use Rattle.format.specs.Storage.{Slot, endToEnd, elements}
+use Rattle.format.specs.Storage.{endToEnd, elements}
 use Rattle.format.specs.Bytes.{bytes}
 use Rattle.format.specs.Content.{isContent, content, contents}
 use Rattle.format.proofs.MarkFacts.{among-passes}

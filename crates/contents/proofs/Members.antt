@@ -11,14 +11,13 @@ use Rattle.format.specs.Conditions.{if_then_else_}
 use Rattle.format.specs.Outcome.{done, _>>=_, guard}
 use Rattle.format.specs.Limits.{limit}
 use Rattle.format.specs.Marks.{Opening, bracket, brace, closes, isInteger, 'S'}
-use Rattle.format.specs.Tokens.{Token, key as keyKind, isKind, Forest, none, node, alone, uncounted, size, _⊕_}
+use Rattle.format.specs.Tokens.{Token, key as keyKind, isKind, Forest, none, alone, uncounted, size, _⊕_}
 use Rattle.format.specs.Records.{memberWidth, totalWidth}
 use Rattle.format.specs.Bytes.{byte, oneOf}
 use Rattle.format.specs.Integers.{number}
 use Rattle.format.specs.Sequences.{Reader, rowLeft, _⨾_, until}
 use Rattle.format.specs.Content.{payloadEnd}
 use Rattle.format.specs.Scalars.{key}
-use Rattle.format.specs.Schemas.{schema, fixed}
 use Rattle.format.proofs.Forests.{append-none, width-append}
 use Rattle.laws.proofs.Holds.{of-done}
 use Rattle.laws.proofs.Loops.{until-step}

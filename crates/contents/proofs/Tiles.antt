@@ -7,13 +7,13 @@ use native.Mathlib.Omega.{arith}
 use native.Mathlib.Nat.{suc-mul, mul-add, le-refl}
 use lib.ListN.{length}
 use lib.Dec.{leb}
-use borrow.Author.Tests.{le-leb, eqb-true}
+use borrow.Author.Tests.{le-leb}
 use Rattle.format.specs.Conditions.{if_then_else_}
 use Rattle.format.specs.Outcome.{Outcome, fault, done, _>>=_, guard}
 use Rattle.format.specs.Limits.{limit}
 use Rattle.format.specs.Refusals.{wrongContent}
 use Rattle.format.specs.Marks.{Opening, bracket, brace}
-use Rattle.format.specs.Tokens.{Token, kindNumber, leaf as leafKind, isKind, Forest}
+use Rattle.format.specs.Tokens.{leaf as leafKind, isKind, Forest}
 use Rattle.format.specs.Records.{memberWidth, totalWidth}
 use Rattle.format.specs.Bytes.{bytes}
 use Rattle.format.specs.Content.{isContent, content, contents}

@@ -2,7 +2,7 @@
 use Prim.Native.Nat.{ℕ, _≤_, _<_}
 use mathlib.Core.Path.{_≡_, refl, subst, sym}
 use mathlib.Core.Bool.{Bool, true, false, _&&_, _||_, false≢true}
-use mathlib.Core.List.{List, [], _∷_, _++_}
+use mathlib.Core.List.{List, [], _∷_}
 use native.Mathlib.Omega.{arith}
 use lib.Dec.{eqb, ltb}
 use borrow.Author.Tests.{eqb-true, ltb-true}
@@ -22,12 +22,12 @@ among-passes p (y ∷ l) x a h = go (p y) (eqb x y) refl refl a h (among-passes 
 
 -- a type's mark has bytes
 pub type-wide : (mark : ℕ) → isType mark ≡ true → 0 < width mark
-unfolding isType types integers _++_ all width among if_then_else_
+unfolding isType types integers all width among if_then_else_
 type-wide mark h = ltb-true 0 (width mark) (among-passes (λ k. ltb 0 (width k)) types mark refl h)
 
 -- an integer's mark is a type's, and so has bytes
 pub integer-wide : (mark : ℕ) → isInteger mark ≡ true → 0 < width mark
-unfolding isType types isInteger integers _++_ all among
+unfolding isType types isInteger integers all among
 integer-wide mark h = type-wide mark (among-passes isType integers mark refl h)
 
 -- a signed integer's mark is an integer's

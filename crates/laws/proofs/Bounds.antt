@@ -8,11 +8,10 @@ use native.Mathlib.Omega.{arith}
 use lib.ListN.{length}
 use lib.Dec.{ltb}
 use borrow.Author.Tests.{ltb-true, ltb-false, leb-true, le-ltb}
-use Rattle.format.specs.Conditions.{if_then_else_, all, among}
 use Rattle.format.specs.Outcome.{Outcome, fault, Parsed, _>>=_, _>>_, guard}
 use Rattle.format.specs.Limits.{limit}
 use Rattle.format.specs.Refusals.{endsTooEarly, noRowLeft}
-use Rattle.format.specs.Marks.{Opening, bracket, brace, integers, types, isType, width}
+use Rattle.format.specs.Marks.{Opening, bracket, brace, width}
 use Rattle.format.specs.Tokens.{Token, Kind, isKind, Forest, none, node, alone, size, _⊕_}
 use Rattle.format.specs.Records.{placed}
 use Rattle.format.specs.Storage.{Slot}

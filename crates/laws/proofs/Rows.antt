@@ -1,11 +1,9 @@
 -- The rows of a forest are in order if its tokens are. Assumes nothing.
-use Prim.Native.Nat.{ℕ, suc, _+_, _≤_, _<_}
-use mathlib.Core.Path.{_≡_, refl, ap, _∙_}
+use Prim.Native.Nat.{ℕ, suc, _+_, _≤_}
 use mathlib.Core.List.{List, _++_}
 use native.Mathlib.Omega.{arith}
 use native.Mathlib.Nat.{le-trans}
-use lib.ListN.{length, length-append}
-use Rattle.format.specs.Tokens.{Forest, none, node, size}
+use Rattle.format.specs.Tokens.{Forest, size}
 use Rattle.format.specs.Rows.{Row, rowOf, rows}
 use Rattle.laws.specs.Rising.{Rising, noRow, nextRow}
 use Rattle.laws.proofs.Order.{InOrder, stop, step, order-size}

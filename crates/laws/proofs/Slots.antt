@@ -6,10 +6,9 @@ use mathlib.Core.List.{List, [], _∷_, _++_}
 use native.Mathlib.Omega.{arith}
 use native.Mathlib.Nat.{suc-mul, mul-add, le-trans}
 use lib.ListN.{length}
-use borrow.Author.Tests.{eqb-true}
 use Rattle.format.specs.Conditions.{if_then_else_}
 use Rattle.format.specs.Marks.{Opening, bracket, brace, width}
-use Rattle.format.specs.Tokens.{Token, kindNumber, leaf as leafKind, isKind, Forest, none, node, belowFirst}
+use Rattle.format.specs.Tokens.{Token, leaf as leafKind, isKind, Forest, none, node, belowFirst}
 use Rattle.format.specs.Records.{memberWidth, totalWidth}
 use Rattle.format.specs.Indexes.{countFrom}
 use Rattle.format.specs.Storage.{Slot, endToEnd, elements, leaves, byRows, byColumns, records}

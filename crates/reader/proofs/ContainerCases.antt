@@ -1,7 +1,6 @@
 -- The cases of a container, in the order of its tests. Assumes nothing.
 use Prim.Native.Nat.{ℕ, zero, suc, _+_, _-_, _≤_, _<_}
-use mathlib.Core.Path.{_≡_, refl, sym, ap, _∙_}
-use mathlib.Core.Bool.{Bool, true, false}
+use mathlib.Core.Path.{_≡_, refl, _∙_}
 use mathlib.Core.List.{List}
 use native.Mathlib.Omega.{arith}
 use native.Mathlib.Numerals.{sub-one}
@@ -13,7 +12,7 @@ use Rattle.format.specs.Refusals.{endsTooEarly, tooDeep, noRowLeft}
 use Rattle.format.specs.Marks.{Opening, closes, '#', '$'}
 use Rattle.format.specs.Bytes.{byte, skip}
 use Rattle.format.specs.Integers.{integer}
-use Rattle.format.specs.Sequences.{Reader, rowLeft, repeat, until, spaced}
+use Rattle.format.specs.Sequences.{rowLeft, repeat, until, spaced}
 use Rattle.format.specs.Containers.{counted, plain, typed, items, containerBy}
 use Rattle.format.specs.Read.{valueBy, nested}
 use Rattle.containers.specs.Lists.{closed}

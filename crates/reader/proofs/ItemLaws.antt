@@ -1,10 +1,10 @@
 -- What follows of the items' answers. Assumes nothing.
-use Prim.Native.Nat.{ℕ, _+_, _≤_, _<_}
+use Prim.Native.Nat.{ℕ, _+_, _≤_}
 use mathlib.Core.Path.{_≡_, refl, sym, ap, _∙_}
 use mathlib.Core.Bool.{Bool, true, false, true≢false, false≢true}
 use mathlib.Core.List.{List}
 use native.Mathlib.Omega.{arith}
-use Rattle.format.specs.Outcome.{Parsed, fault, done, _>>=_}
+use Rattle.format.specs.Outcome.{Parsed, fault}
 use Rattle.format.specs.Marks.{Opening}
 use Rattle.format.specs.Tokens.{Forest, none, size, _⊕_, members}
 use Rattle.format.specs.Rows.{rows}

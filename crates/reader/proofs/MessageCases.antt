@@ -1,22 +1,20 @@
 -- The cases of a whole message, and what the lent words hold at the end. Assumes nothing.
-use Prim.Native.Nat.{ℕ, zero, suc, _+_, _*_, _/_, _≤_, _<_}
-use mathlib.Core.Path.{_≡_, refl, sym, ap, _∙_}
+use Prim.Native.Nat.{ℕ, _*_, _≤_, _<_}
+use mathlib.Core.Path.{_≡_, sym, _∙_}
 use mathlib.Core.List.{List}
 use native.Mathlib.Omega.{arith}
-use lib.ListN.{length, length-replicate}
-use lib.Dec.{leb, eqb}
+use lib.ListN.{length}
 use borrow.Author.Tests.{le-leb, lt-leb, eq-eqb, ne-eqb}
 use Rattle.format.specs.Outcome.{Outcome, fault, done, _>>=_, _>>_, guard}
 use Rattle.format.specs.Limits.{limit, valueLevels}
 use Rattle.format.specs.Refusals.{messageTooLong, bytesAfter}
 use Rattle.format.specs.Marks.{bracket}
-use Rattle.format.specs.Tokens.{Forest, size}
-use Rattle.format.specs.Rows.{rows, rowsIn, allRows, allWords, zeros}
+use Rattle.format.specs.Tokens.{Forest}
+use Rattle.format.specs.Rows.{rows, allRows, allWords, zeros}
 use Rattle.format.specs.Bytes.{skip}
 use Rattle.format.specs.Containers.{items}
 use Rattle.format.specs.Read.{read, rowsUsed, wordsAfter}
 use Rattle.format.proofs.Forests.{length-rows}
-use Rattle.rows.specs.Overlay.{lay}
 use Rattle.rows.proofs.Overlay.{lay-zeros}
 use Rattle.tokens.specs.Answers.{Laid}
 use Rattle.reader.specs.Values.{memberOf}

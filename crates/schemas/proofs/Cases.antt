@@ -1,7 +1,7 @@
 -- The cases of a schema's leaves, records and fixed arrays, in the order of their tests. Assumes nothing.
 use Prim.Native.Nat.{ℕ, zero, suc, _+_, _-_, _≤_, _<_}
 use mathlib.Core.Path.{_≡_, _∙_}
-use mathlib.Core.Bool.{Bool, true, false, not}
+use mathlib.Core.Bool.{Bool, true, false}
 use mathlib.Core.List.{List}
 use native.Mathlib.Omega.{arith}
 use lib.ListN.{length, getD}
@@ -124,11 +124,11 @@ module _ (m : List ℕ) (lent at row : ℕ) where
       array-early h = nested-left levels bracket left ∙ rw (lt-ltb _ _ lends, le-ltb _ _ h)
 
       pub array-typed : at + 1 < length m → getD m (at + 1) 0 ≡ '$' → nested m lent levels bracket at row ≡ fault notBuilt at
-      unfolding groupBy fixed byte rowLeft guard _>>_ _>>=_ not
+      unfolding groupBy fixed byte rowLeft guard _>>_ _>>=_
       array-typed h e = nested-left levels bracket left ∙ rw (lt-ltb _ _ lends, lt-ltb _ _ h, eq-eqb _ _ e)
 
       pub array-opens : at + 1 < length m → (getD m (at + 1) 0 ≡ '$' → ⊥) → nested m lent levels bracket at row ≡ arrayAt m lent (levels - 1) at row
-      unfolding groupBy fixed byte rowLeft guard _>>_ _>>=_ not
+      unfolding groupBy fixed byte rowLeft guard _>>_ _>>=_
       array-opens h e = nested-left levels bracket left ∙ rw (lt-ltb _ _ lends, lt-ltb _ _ h, ne-eqb _ _ e)
 
   -- ---- a table's schema

@@ -12,9 +12,9 @@ use Rattle.format.specs.Outcome.{Parsed, fault, done, _>>=_, _>>_, guard}
 use Rattle.format.specs.Limits.{limit}
 use Rattle.format.specs.Refusals.{endsTooEarly}
 use Rattle.format.specs.Marks.{Opening, opens, closes}
-use Rattle.format.specs.Tokens.{Kind, key as keyKind, Forest, none, size, isKind, members}
+use Rattle.format.specs.Tokens.{Kind, key as keyKind, Forest, none, size, isKind}
 use Rattle.format.specs.Records.{totalWidth}
-use Rattle.format.specs.Rows.{rowOf, rows}
+use Rattle.format.specs.Rows.{rowOf}
 use Rattle.format.specs.Bytes.{byte}
 use Rattle.format.specs.Sequences.{Reader, _⨾_, until}
 use Rattle.format.specs.Schemas.{group, enclosed}

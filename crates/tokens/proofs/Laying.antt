@@ -1,9 +1,9 @@
 -- Tokens that lie in the lent words. Assumes nothing.
-use Prim.Native.Nat.{ℕ, suc, _+_, _≤_, _<_}
-use mathlib.Core.Path.{_≡_, refl, sym, ap, _∙_}
+use Prim.Native.Nat.{ℕ, suc, _+_, _≤_}
+use mathlib.Core.Path.{_≡_, refl, _∙_}
 use mathlib.Core.List.{List, append-nil}
 use native.Mathlib.Omega.{arith}
-use Rattle.format.specs.Outcome.{Outcome, Parsed, fault, done, _>>=_}
+use Rattle.format.specs.Outcome.{Outcome, Parsed, done, _>>=_}
 use Rattle.format.specs.Tokens.{Kind, Token, Forest, none, node, alone, uncounted, size, members}
 use Rattle.format.specs.Rows.{rowOf, rows}
 use Rattle.rows.specs.Row.{store}

@@ -1,14 +1,11 @@
 -- A loop over tokens, whatever they are: what was read so far lies in the words, and the whole is that and what remains. One law
 -- each for the start, a step, a fault and the end serves every loop. Assumes nothing.
-use Prim.Native.Nat.{ℕ, suc, _+_}
+use Prim.Native.Nat.{ℕ, _+_}
 use mathlib.Core.Path.{_≡_, refl, sym, ap, _∙_}
-use mathlib.Core.List.{List, [], _∷_, _++_, append-assoc, append-nil}
+use mathlib.Core.List.{List}
 use native.Mathlib.Omega.{arith}
-use native.Mathlib.Nat.{add-zero}
-use lib.ListN.{length, length-append}
-use Rattle.format.specs.Conditions.{if_then_else_}
 use Rattle.format.specs.Outcome.{Parsed, fault, done, _>>=_}
-use Rattle.format.specs.Tokens.{Token, Forest, none, node, size, _⊕_, members}
+use Rattle.format.specs.Tokens.{Forest, none, size, _⊕_, members}
 use Rattle.format.specs.Rows.{rows}
 use Rattle.format.specs.Sequences.{Reader, _⨾_}
 use Rattle.format.proofs.Forests.{append-none, ⊕-assoc, size-append, members-append, length-rows, rows-append}

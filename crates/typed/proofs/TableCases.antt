@@ -1,11 +1,11 @@
 -- The cases of a table, in the order of its tests. Assumes nothing.
 use Prim.Native.Nat.{ℕ, _+_, _*_, _≤_, _<_}
-use mathlib.Core.Path.{_≡_, refl, sym, _∙_}
+use mathlib.Core.Path.{_≡_, _∙_}
 use mathlib.Core.Bool.{false}
 use mathlib.Core.List.{List}
 use lib.ListN.{length, getD}
 use borrow.Author.Tests.{le-leb, lt-leb, le-ltb, lt-ltb, eq-eqb, ne-eqb}
-use Rattle.format.specs.Outcome.{Parsed, fault, done, _>>=_, _>>_, guard}
+use Rattle.format.specs.Outcome.{fault, done, _>>=_, _>>_, guard}
 use Rattle.format.specs.Limits.{limit, recordLimit}
 use Rattle.format.specs.Refusals.{endsTooEarly, notAllowed, overLimit}
 use Rattle.format.specs.Marks.{Opening, opens, '#'}

@@ -6,7 +6,7 @@ use mathlib.Core.List.{List}
 use lib.ListN.{length, getD}
 use borrow.Author.Tests.{le-ltb, lt-ltb, eq-eqb, ne-eqb}
 use Rattle.format.specs.Conditions.{if_then_else_}
-use Rattle.format.specs.Outcome.{fault, done, _>>=_, _>>_, guard}
+use Rattle.format.specs.Outcome.{fault, _>>=_, _>>_, guard}
 use Rattle.format.specs.Refusals.{endsTooEarly, notAllowed}
 use Rattle.format.specs.Marks.{Opening, isType, left-brace, '#'}
 use Rattle.format.specs.Bytes.{byte, oneOf}

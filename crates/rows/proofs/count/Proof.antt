@@ -1,5 +1,4 @@
 -- `count`: the table's words, eight to a row. Assumes nothing.
-use borrow.Author.Needs.{needs}
 use mathlib.Core.Path.{refl}
 use Rattle.format.specs.Rows.{rowsIn}
 use Rattle.rows.proofs.count.Statement.{statement}

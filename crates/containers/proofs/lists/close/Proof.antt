@@ -1,9 +1,6 @@
 -- `close`: the row over what is held. Assumes nothing.
-use Prim.Native.Nat.{ℕ, _+_, _-_, _≤_, _<_}
-use mathlib.Core.Path.{_≡_, refl, sym, ap, _∙_}
 use native.Mathlib.Omega.{arith}
 use borrow.Author.Needs.{needs}
-use Rattle.format.specs.Rows.{rowOf}
 use Rattle.containers.proofs.Closing.{laid-closed, closed-fault}
 use Rattle.containers.proofs.lists.close.Statement.{statement}
 use Rattle.containers.proofs.lists.close.Tie as tie

@@ -1,9 +1,6 @@
 -- `pair`: the key, then the value. Assumes nothing.
-use Prim.Native.Nat.{ℕ, _+_, _-_, _≤_, _<_}
-use mathlib.Core.Path.{_≡_, refl, sym, ap, _∙_}
 use native.Mathlib.Omega.{arith}
 use borrow.Author.Needs.{needs}
-use lib.ListN.{length}
 use Rattle.tokens.proofs.Laying.{within-from}
 use Rattle.tokens.proofs.Sofar.{seq-fault, seq-meets}
 use Rattle.containers.specs.Lists.{pairOf}

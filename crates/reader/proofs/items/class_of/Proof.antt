@@ -1,5 +1,4 @@
 -- `class_of`: by the mark. Assumes nothing.
-use mathlib.Core.Path.{_≡_}
 use borrow.Author.Needs.{needs}
 use borrow.Author.Tests.{ne-eqb}
 use Rattle.format.specs.Conditions.{if_then_else_}

@@ -1,10 +1,7 @@
 -- `member_start`: a value, or a key and a value. Assumes nothing.
-use Prim.Native.Nat.{ℕ, _+_, _≤_, _<_, max}
-use mathlib.Core.Path.{_≡_, refl, sym, ap, _∙_}
 use native.Mathlib.Omega.{arith}
 use borrow.Author.Needs.{needs}
 use borrow.Author.Tests.{not-true, not-false}
-use lib.ListN.{length}
 use Rattle.reader.proofs.ItemLaws.{member-plain, member-key-fault, member-keyed, within-item}
 use Rattle.reader.proofs.items.member_start.Statement.{statement}
 use Rattle.reader.proofs.items.member_start.Tie as tie

@@ -1,10 +1,8 @@
 -- `read`: the words are cleared, filled, and on refusal cleared again. Assumes nothing.
-use Prim.Native.Nat.{ℕ, _+_, _*_, _/_, _≤_, _<_, max}
-use mathlib.Core.Path.{_≡_, refl, sym, ap, _∙_}
+use mathlib.Core.Path.{_≡_, _∙_}
 use native.Mathlib.Omega.{arith}
 use borrow.Author.Needs.{needs}
 use lib.ListN.{length}
-use Rattle.format.specs.Bytes.{skip}
 use Rattle.format.specs.Rows.{rowsIn}
 use Rattle.format.specs.Read.{readInto}
 use Rattle.reader.proofs.MessageCases.{used, refused, words-filled, words-zero}

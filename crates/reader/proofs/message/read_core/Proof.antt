@@ -1,10 +1,6 @@
 -- `read_core`: the limit, the value, and what follows it. Assumes nothing.
-use Prim.Native.Nat.{ℕ, _+_, _*_, _/_, _≤_, _<_, max}
-use mathlib.Core.Path.{_≡_, refl, sym, ap, _∙_}
 use native.Mathlib.Omega.{arith}
 use borrow.Author.Needs.{needs}
-use lib.ListN.{length}
-use Rattle.format.specs.Bytes.{skip}
 use Rattle.reader.proofs.MessageCases.{read-long, read-fault, read-more, read-lies}
 use Rattle.reader.proofs.message.read_core.Statement.{statement}
 use Rattle.reader.proofs.message.read_core.Tie as tie

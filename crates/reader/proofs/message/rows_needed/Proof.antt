@@ -1,10 +1,5 @@
 -- `rows_needed`: the core with no table. Assumes nothing.
-use Prim.Native.Nat.{ℕ, _+_, _*_, _/_, _≤_, _<_, max}
-use mathlib.Core.Path.{_≡_, refl, sym, ap, _∙_}
-use native.Mathlib.Omega.{arith}
 use borrow.Author.Needs.{needs}
-use lib.ListN.{length}
-use Rattle.format.specs.Bytes.{skip}
 use Rattle.format.specs.Panel.{rowsNeeded, readWhole}
 use Rattle.reader.proofs.MessageCases.{used, refused}
 use Rattle.reader.proofs.message.rows_needed.Statement.{statement}

@@ -1,15 +1,13 @@
 -- The cycle of `container`, `member`, `counted` and `plain`: each call has a level less, or is nearer to where a level is taken. Assumes nothing.
-use Prim.Native.Nat.{ℕ, suc, _+_, _*_, _-_, _≤_, _<_, max}
-use mathlib.Core.Path.{_≡_, refl, sym, ap, _∙_}
+use Prim.Native.Nat.{ℕ, _+_, _*_, _-_, _≤_, _<_}
+use mathlib.Core.Path.{_≡_, refl, _∙_}
 use native.Mathlib.Omega.{arith}
 use native.Mathlib.Nat.{sub-zero}
 use lib.ListN.{length}
 use borrow.Author.Needs.{needs}
-use Rattle.format.specs.Outcome.{fault}
 use Rattle.format.specs.Marks.{closes}
 use Rattle.format.specs.Bytes.{skip}
-use Rattle.format.specs.Sequences.{repeat, spaced, until}
-use Rattle.format.specs.Read.{nested}
+use Rattle.format.specs.Sequences.{spaced}
 use Rattle.tokens.proofs.Laying.{within-from}
 use Rattle.tokens.specs.Answers.{openingOf}
 use Rattle.reader.specs.Values.{memberOf}

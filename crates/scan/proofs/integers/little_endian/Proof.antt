@@ -2,7 +2,7 @@
 use Prim.Native.Nat.{_+_, _-_, _*_, _^_, _≤_, _<_}
 use mathlib.Core.Path.{_≡_, _∙_}
 use native.Mathlib.Omega.{arith}
-use lib.ListN.{length, getD}
+use lib.ListN.{getD}
 use Rattle.format.specs.Bytes.{little, bytes}
 use Rattle.scan.proofs.Digits.{none-read, one-lower, all-read, fits-64, too-wide, not-there, all-there}
 use Rattle.scan.proofs.integers.little_endian.Statement.{statement}

@@ -1,7 +1,6 @@
 -- `on_digit`: by `is_digit`. Assumes nothing.
 use borrow.Author.Needs.{needs}
 use Rattle.format.specs.Conditions.{if_then_else_}
-use Rattle.format.specs.JsonNumber as Json
 use Rattle.scan.proofs.json.on_digit.Statement.{statement}
 use Rattle.scan.proofs.json.on_digit.Tie as tie
 

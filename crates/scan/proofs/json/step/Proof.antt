@@ -1,7 +1,5 @@
 -- `step`: by the stage. Assumes nothing.
-use mathlib.Core.Path.{_≡_, _∙_, ap, sym}
 use borrow.Author.Needs.{needs}
-use Rattle.format.specs.Conditions.{if_then_else_}
 use Rattle.format.specs.JsonNumber as Json
 use Rattle.scan.proofs.json.step.Statement.{statement}
 use Rattle.scan.proofs.json.step.Tie as tie

@@ -2,7 +2,6 @@
 use Prim.Native.Nat.{_-_, _≤_, max}
 use mathlib.Core.Path.{_≡_, refl, sym, _∙_}
 use native.Mathlib.Omega.{arith}
-use borrow.Author.Needs.{needs}
 use lib.ListN.{length}
 use Rattle.format.specs.Bytes as Bytes
 use Rattle.format.proofs.Noops.{skip-noop, skip-here, skip-end}

@@ -1,12 +1,11 @@
 -- `owed_after`: nothing owed, or one of those owed. Assumes nothing.
-use Prim.Native.Nat.{ℕ, zero, suc, _-_, _<_, _≤_}
-use mathlib.Core.Path.{_≡_, refl}
+use Prim.Native.Nat.{ℕ, zero, suc, _-_, _<_}
+use mathlib.Core.Path.{_≡_}
 use native.Mathlib.Omega.{arith}
 use borrow.Author.Needs.{needs}
-use lib.Dec.{leb}
 use borrow.Author.Tests.{le-leb, lt-leb}
 use Rattle.format.specs.Conditions.{if_then_else_, between}
-use Rattle.scan.specs.Owed.{owedAfterLead, owedAfter}
+use Rattle.scan.specs.Owed.{owedAfter}
 use Rattle.scan.proofs.text.owed_after.Statement.{statement}
 use Rattle.scan.proofs.text.owed_after.Tie as tie
 

@@ -1,5 +1,4 @@
 -- `owed_after_lead`: by the bounds of the four groups. Assumes nothing.
-use Prim.Native.Nat.{ℕ, _≤_}
 use native.Mathlib.Omega.{arith}
 use borrow.Author.Tests.{le-leb, lt-leb}
 use Rattle.format.specs.Conditions.{if_then_else_, between}

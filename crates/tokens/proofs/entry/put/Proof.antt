@@ -1,6 +1,4 @@
 -- `put`: the row that the struct stands for is stored. Assumes nothing.
-use mathlib.Core.Path.{_≡_, _∙_, refl}
-use native.Mathlib.Omega.{arith}
 use borrow.Author.Needs.{needs}
 use Rattle.format.specs.Rows.{rowOf}
 use Rattle.tokens.proofs.entry.put.Statement.{statement}

@@ -1,15 +1,11 @@
 -- `key`: the mark of its length, a row, then the length and the payload. Assumes nothing.
 use Prim.Native.Nat.{_+_, _≤_, _<_}
-use mathlib.Core.Path.{_≡_, sym, _∙_, ap}
-use mathlib.Core.Bool.{true}
+use mathlib.Core.Path.{sym, _∙_, ap}
 use native.Mathlib.Omega.{arith}
 use borrow.Author.Needs.{needs}
 use Rattle.format.specs.Conditions.{if_then_else_}
 use Rattle.format.specs.Tokens.{isKind, members}
 use borrow.Author.Tests.{not-true, not-false}
-use lib.ListN.{getD}
-use Rattle.format.specs.Marks.{isInteger}
-use Rattle.format.proofs.MarkFacts.{integer-wide}
 use Rattle.scan.specs.Numbers.{parsed}
 use Rattle.tokens.proofs.Cases.{key-early, key-other, key-no-row, key-length, key-there}
 use Rattle.tokens.proofs.Laying.{ended-is, within-from}

@@ -1,9 +1,9 @@
 -- `text`: a row must be left, then the length and the payload. Assumes nothing.
 use Prim.Native.Nat.{_+_, _≤_, _<_}
-use mathlib.Core.Path.{_≡_, sym, _∙_, ap}
+use mathlib.Core.Path.{sym, _∙_, ap}
 use native.Mathlib.Omega.{arith}
 use borrow.Author.Needs.{needs}
-use Rattle.format.specs.Tokens.{isKind, members}
+use Rattle.format.specs.Tokens.{members}
 use Rattle.scan.specs.Numbers.{parsed}
 use Rattle.tokens.proofs.Cases.{text-no-row, text-length, text-there}
 use Rattle.tokens.proofs.Laying.{ended-is, within-from}

@@ -1,5 +1,4 @@
 -- `unmarked`: a byte must stand there, then the scalar. Assumes nothing.
-use Prim.Native.Nat.{_+_, _≤_, _<_}
 use native.Mathlib.Omega.{arith}
 use borrow.Author.Needs.{needs}
 use Rattle.tokens.proofs.Cases.{unmarked-early, unmarked-there}

@@ -1,10 +1,6 @@
 -- `typed`: by the type. Assumes nothing.
-use Prim.Native.Nat.{ℕ, _+_, _≤_, _<_}
-use mathlib.Core.Path.{_≡_, refl, sym, ap, _∙_}
-use mathlib.Core.Bool.{true, false}
 use native.Mathlib.Omega.{arith}
 use borrow.Author.Needs.{needs}
-use lib.ListN.{length}
 use Rattle.format.specs.Containers.{typedAs}
 use Rattle.format.proofs.MarkFacts.{type-wide}
 use Rattle.containers.specs.Lists.{pairOf}

@@ -1,6 +1,6 @@
 -- `packed`: shape, product, payload end, content. Assumes nothing.
-use Prim.Native.Nat.{ℕ, _+_, _-_, _*_, _≤_, _<_, min}
-use mathlib.Core.Path.{_≡_, refl, sym, ap, _∙_}
+use Prim.Native.Nat.{_+_, _*_, _≤_}
+use mathlib.Core.Path.{_≡_, refl}
 use native.Mathlib.Omega.{arith}
 use borrow.Author.Needs.{needs}
 use lib.ListN.{length}
@@ -11,7 +11,6 @@ use Rattle.format.specs.Marks.{width}
 use Rattle.format.specs.Tokens.{isKind, members}
 use Rattle.format.specs.Containers.{stored}
 use Rattle.format.proofs.MarkFacts.{width-few}
-use Rattle.tokens.proofs.Laying.{within-from}
 use Rattle.typed.proofs.PackedCases.{packed-fault, packed-over, packed-early, packed-there}
 use Rattle.typed.proofs.packed.packed.Statement.{statement}
 use Rattle.typed.proofs.packed.packed.Tie as tie

@@ -1,9 +1,7 @@
 -- `store_row`: by the content. Assumes nothing.
-use Prim.Native.Nat.{ℕ, _+_, _-_, _*_, _≤_, _<_, min}
-use mathlib.Core.Path.{_≡_, refl, sym, ap, _∙_}
+use mathlib.Core.Path.{refl}
 use native.Mathlib.Omega.{arith}
 use borrow.Author.Needs.{needs}
-use lib.ListN.{length}
 use Rattle.tokens.proofs.Laying.{laid-under}
 use Rattle.typed.proofs.packed.store_row.Statement.{statement}
 use Rattle.typed.proofs.packed.store_row.Tie as tie

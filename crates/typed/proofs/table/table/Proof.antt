@@ -1,11 +1,9 @@
 -- `table`: the schema, the count, the payload. Assumes nothing.
-use Prim.Native.Nat.{ℕ, _+_, _-_, _*_, _≤_, _<_, min}
-use mathlib.Core.Path.{_≡_, refl, sym, ap, _∙_}
+use mathlib.Core.Path.{sym}
 use native.Mathlib.Omega.{arith}
 use borrow.Author.Needs.{needs}
-use lib.ListN.{length}
 use Rattle.typed.proofs.Header.{header-read}
-use Rattle.typed.proofs.TableCases.{table-fault, table-early, table-other, table-shape-fault, table-over, table-wide, table-end, table-there}
+use Rattle.typed.proofs.TableCases.{table-fault, table-early, table-other, table-shape-fault}
 use Rattle.typed.proofs.table.table.Statement.{statement}
 use Rattle.typed.proofs.table.table.Tie as tie
 

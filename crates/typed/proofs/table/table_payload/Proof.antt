@@ -1,17 +1,17 @@
 -- `table_payload`: the two limits, the payload’s end, its content. Assumes nothing.
-use Prim.Native.Nat.{ℕ, _+_, _-_, _*_, _≤_, _<_, min}
-use mathlib.Core.Path.{_≡_, refl, sym, ap, _∙_}
+use Prim.Native.Nat.{_+_, _*_, _≤_}
+use mathlib.Core.Path.{_≡_}
 use native.Mathlib.Omega.{arith}
 use borrow.Author.Needs.{needs}
 use lib.ListN.{length}
 use native.Mathlib.Nat.{mul-le-mul}
 use Rattle.format.specs.Conditions.{if_then_else_}
 use Rattle.format.specs.Limits.{limit, recordLimit}
-use Rattle.format.specs.Tokens.{isKind, members, size, _⊕_}
+use Rattle.format.specs.Tokens.{isKind, members, _⊕_}
 use Rattle.format.specs.Records.{totalWidth, placed}
 use Rattle.format.specs.Storage.{memberRow}
 use Rattle.format.specs.Containers.{stored}
-use Rattle.typed.proofs.TableCases.{table-fault, table-early, table-other, table-shape-fault, table-over, table-wide, table-end, table-there}
+use Rattle.typed.proofs.TableCases.{table-over, table-wide, table-end, table-there}
 use Rattle.typed.proofs.table.table_payload.Statement.{statement}
 use Rattle.typed.proofs.table.table_payload.Tie as tie
 
