@@ -1,9 +1,6 @@
 // What an array or object holds, read one member after another, and the row over it.
 use format::answers::Kind;
-use format::marks::ARRAY;
-use format::marks::ARRAY_END;
-use format::marks::OBJECT;
-use format::marks::OBJECT_END;
+use format::marks::opening_mark;
 use tokens::Step;
 use tokens::entry::Entry;
 use tokens::entry::put;
@@ -12,11 +9,11 @@ ghost use mathlib.Core.List.{List};
 ghost use Prim.Native.Nat.{ℕ, _+_, _-_, _≤_, _<_};
 ghost use Rattle.format.specs.Outcome.{Parsed};
 ghost use Rattle.format.specs.Limits.{limit};
-ghost use Rattle.format.specs.Marks.{opens, closes};
+ghost use Rattle.format.specs.Marks.{openingOf};
 ghost use Rattle.format.specs.Tokens.{Forest};
 ghost use Rattle.format.specs.Answers.{kindOf};
 ghost use Rattle.format.specs.Containers.{containerKind};
-ghost use Rattle.tokens.specs.Answers.{openingOf, Meets, Within};
+ghost use Rattle.tokens.specs.Answers.{Meets, Within};
 ghost use Rattle.containers.specs.Lists.{ListMeets, ListWithin, closed};
 
 // A refusal's number and place; or the place after members, the row after theirs, and how many there are.
@@ -33,26 +30,6 @@ pub fn container_kind(brace: bool) -> Kind
         return Kind::Object;
     }
     Kind::Array
-}
-
-// Its opening mark.
-pub fn opening_mark(brace: bool) -> u8
-    ensures { λ r. ⌜ r ≡ opens (openingOf brace) ⌝ }
-{
-    if brace {
-        return OBJECT;
-    }
-    ARRAY
-}
-
-// Its closing mark.
-pub fn closing_mark(brace: bool) -> u8
-    ensures { λ r. ⌜ r ≡ closes (openingOf brace) ⌝ }
-{
-    if brace {
-        return OBJECT_END;
-    }
-    ARRAY_END
 }
 
 // The row of an array or object over what it holds, which starts at `start` and is followed by `shut` bytes of closing mark.

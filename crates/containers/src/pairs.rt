@@ -6,7 +6,6 @@ use scan::integers::integer;
 use tokens::Step;
 use tokens::scalars::key;
 use tokens::scalars::unmarked;
-ghost use mathlib.Core.Path.{_≡_};
 ghost use Prim.Native.Nat.{_+_, _≤_, _<_};
 ghost use lib.ListN.{length};
 ghost use Rattle.format.specs.Limits.{limit};

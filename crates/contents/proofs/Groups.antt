@@ -1,16 +1,16 @@
 -- A schema or a fixed array, walked member by member. Assumes nothing.
 use Prim.Native.Nat.{ℕ, zero, suc, _+_, _≤_, _<_, min}
 use mathlib.Core.Path.{_≡_, refl, sym, _∙_, ap, subst}
-use mathlib.Core.Bool.{Bool, true, false, _&&_, false≢true}
+use mathlib.Core.Bool.{Bool, true, false, false≢true}
 use mathlib.Core.List.{List}
 use native.Mathlib.Omega.{arith}
 use native.Mathlib.Nat.{le-refl}
 use lib.ListN.{length, getD}
-use lib.Dec.{ltb, eqb}
-use borrow.Author.Tests.{ltb-true, lt-ltb, eqb-true, eq-eqb}
+use lib.Dec.{ltb}
+use borrow.Author.Tests.{ltb-true}
 use Rattle.format.specs.Conditions.{if_then_else_}
 use Rattle.format.specs.Outcome.{done, guard}
-use Rattle.format.specs.Marks.{Opening, bracket, brace, closes}
+use Rattle.format.specs.Marks.{Opening, bracket, brace, openingOf, closes}
 use Rattle.format.specs.Tokens.{isKind, Forest, belowFirst}
 use Rattle.format.specs.Records.{memberWidth, totalWidth}
 use Rattle.format.specs.Bytes.{byte}
@@ -22,7 +22,6 @@ use Rattle.laws.proofs.Holds.{of-done}
 use Rattle.laws.proofs.Schemas.{groupKind}
 use Rattle.laws.proofs.Bounds.{Bounded, byte-law, kindBy-bounded, schema-bounded}
 use Rattle.contents.specs.Least.{inColumns, Fits}
-use Rattle.tokens.specs.Answers.{openingOf}
 use Rattle.contents.specs.Items.{itemOf, Keyed}
 use Rattle.contents.specs.Walks.{Walks}
 use Rattle.contents.specs.declared.columns.Walk.{Walk}
@@ -44,19 +43,6 @@ pub after-read : (m : List ℕ) (b : Bool) (at r : ℕ) → b ≡ true → ((len
 unfolding itemOf
 after-read m false at r h k = absurd (false≢true h)
 after-read m true at r h k = λ lent row next kind f l i e. keyed-read m lent kind row next at f l i e r (λ g end x. k lent row end g x)
-
--- ---- the closing mark
-
-both-true : (a b : Bool) → (a && b) ≡ true → (a ≡ true) × (b ≡ true)
-both-true true b h = (refl, h)
-both-true false b h = absurd (false≢true h)
-
-module _ (m : List ℕ) (at mark : ℕ) where
-  pub closed-there : (ltb at (length m) && eqb (getD m at 0) mark) ≡ true → (at < length m) × (getD m at 0 ≡ mark)
-  closed-there h = let x = both-true _ _ h in (ltb-true _ _ (x .0), eqb-true _ _ (x .1))
-
-  pub not-closed : (ltb at (length m) && eqb (getD m at 0) mark) ≡ false → at < length m → getD m at 0 ≡ mark → ⊥
-  not-closed h k e = false≢true (sym (rw (lt-ltb _ _ k, eq-eqb _ _ e) at h))
 
 -- ---- a kind
 

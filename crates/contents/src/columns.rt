@@ -135,16 +135,6 @@ fn leaf_over(
     }
 }
 
-// The byte at a place; 0 where there is none.
-pub fn byte_at(message: &[u8], at: usize) -> u8
-    ensures { λ r. ⌜ r ≡ getD (now (message .entry)) at 0 ⌝ }
-{
-    if message.len() <= at {
-        return 0;
-    }
-    message[at]
-}
-
 // A leaf of the schema.
 pub fn leaf(
     message: &[u8],

@@ -2,19 +2,20 @@
 use crate::columns::FARTHEST;
 use crate::columns::Walk;
 use crate::walk::after_key;
-use crate::walk::closed;
 use crate::walk::group;
 use crate::walk::kind;
 use format::limits::LIMIT;
 use format::limits::RECORD_LIMIT;
 use format::limits::SCHEMA_LEVELS;
+use format::marks::OBJECT_END;
+use scan::bytes::stands;
 ghost use mathlib.Core.Path.{_≡_};
 ghost use Prim.Native.Nat.{ℕ, _≤_};
+ghost use Rattle.format.specs.Marks.{openingOf};
 ghost use Rattle.format.specs.Tokens.{Forest, belowFirst};
 ghost use Rattle.format.specs.Indexes.{below};
 ghost use Rattle.format.specs.Storage.{records};
 ghost use Rattle.contents.specs.Least.{nowhere, farthest, least, inColumns, inFields};
-ghost use Rattle.tokens.specs.Answers.{openingOf};
 ghost use Rattle.contents.specs.Walks.{Sound, Ends};
 ghost use Rattle.contents.specs.Tables.{TableAt, FieldWalks};
 
@@ -76,7 +77,7 @@ fn by_columns(message: &[u8], schema: usize, count: usize, start: usize) -> usiz
         let next = walk.next;
         place = walk.place;
         low = walk.best;
-        if closed(message, true, next) {
+        if stands(message, next, OBJECT_END) {
             return low;
         }
         if next <= i {

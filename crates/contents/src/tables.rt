@@ -5,11 +5,11 @@ use format::limits::LIMIT;
 use format::limits::RECORD_LIMIT;
 ghost use mathlib.Core.Path.{_≡_};
 ghost use Prim.Native.Nat.{ℕ};
+ghost use Rattle.format.specs.Marks.{openingOf};
 ghost use Rattle.format.specs.Tokens.{Forest, belowFirst};
 ghost use Rattle.format.specs.Indexes.{below};
 ghost use Rattle.format.specs.Storage.{records};
 ghost use Rattle.format.specs.Content.{contents};
-ghost use Rattle.tokens.specs.Answers.{openingOf};
 ghost use Rattle.contents.specs.Tables.{TableAt};
 ghost use Rattle.contents.specs.Answers.{checkedOf};
 

@@ -1,26 +1,23 @@
 // The walk over a schema's bytes: each leaf's column is looked at once.
 use crate::columns::Walk;
-use crate::columns::byte_at;
 use crate::columns::leaf;
 use format::limits::LIMIT;
 use format::marks::ARRAY;
-use format::marks::ARRAY_END;
 use format::marks::Mark;
 use format::marks::OBJECT;
-use format::marks::OBJECT_END;
+use format::marks::closing_mark;
+use scan::bytes::byte_at;
+use scan::bytes::stands;
 use scan::integers::Parsed;
 use scan::integers::number;
 ghost use mathlib.Core.Path.{_≡_};
-ghost use mathlib.Core.Bool.{_&&_};
 ghost use Prim.Native.Nat.{ℕ, _+_, _≤_};
-ghost use lib.ListN.{length, getD};
-ghost use lib.Dec.{ltb, eqb};
+ghost use lib.ListN.{length};
 ghost use Rattle.format.specs.Outcome.{done};
-ghost use Rattle.format.specs.Marks.{closes};
+ghost use Rattle.format.specs.Marks.{openingOf};
 ghost use Rattle.format.specs.Tokens.{Forest};
 ghost use Rattle.format.specs.Sequences.{Reader};
 ghost use Rattle.format.specs.Schemas.{kindBy, nested};
-ghost use Rattle.tokens.specs.Answers.{openingOf};
 ghost use Rattle.contents.specs.Items.{itemOf, Keyed};
 ghost use Rattle.contents.specs.Walks.{Sound, Ends, Walks};
 
@@ -46,20 +43,6 @@ pub fn after_key(message: &[u8], brace: bool, at: usize) -> usize
             start + size
         }
     }
-}
-
-// Whether the closing mark stands here.
-pub fn closed(message: &[u8], brace: bool, at: usize) -> bool
-    ensures { λ r. ⌜ r ≡ (ltb at (length (now (message .entry))) && eqb (getD (now (message .entry)) at 0) (closes (openingOf brace))) ⌝ }
-{
-    if message.len() <= at {
-        return false;
-    }
-    let b = message[at];
-    if brace {
-        return b == OBJECT_END;
-    }
-    b == ARRAY_END
 }
 
 // A kind: a leaf, a schema or a fixed array.
@@ -109,6 +92,7 @@ pub fn group(
     if message.len() <= at {
         return off;
     }
+    let closing = closing_mark(brace);
     let mut i = at + 1;
     let mut here = place;
     let mut low = best;
@@ -116,7 +100,7 @@ pub fn group(
         let from = after_key(message, brace, i);
         let walk = kind(message, levels - 1, from, stride, count, here, low);
         let next = walk.next;
-        if closed(message, brace, next) {
+        if stands(message, next, closing) {
             let mut whole = walk;
             whole.next = next + 1;
             return whole;

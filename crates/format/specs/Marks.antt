@@ -1,6 +1,6 @@
 -- The marks, and the width that goes with each. A mark is a byte: the code of its letter.
 use Prim.Native.Nat.{ℕ}
-use mathlib.Core.Bool.{Bool, _||_}
+use mathlib.Core.Bool.{Bool, true, false, _||_}
 use mathlib.Core.List.{List, [], _∷_, _++_}
 use lib.Dec.{eqb}
 use Rattle.format.specs.Conditions.{if_then_else_, among}
@@ -84,6 +84,11 @@ right-brace = 0x7D
 -- what a container opens with: `[` or the left brace
 pub data Opening : Type 0 where
   bracket brace : Opening
+
+-- the opening that the code's flag stands for
+abbrev pub openingOf : Bool → Opening
+openingOf true = brace
+openingOf false = bracket
 
 unfoldable pub opens : Opening → ℕ
 opens bracket = '['

@@ -1,6 +1,6 @@
 // The marks. The bytes that go with a mark are said once, in `Mark::traits`, and used by all.
 ghost use mathlib.Core.Path.{_≡_};
-ghost use Rattle.format.specs.Marks.{isInteger, isSigned, isType, isScalar, isPlainLeaf, width, leafWidth};
+ghost use Rattle.format.specs.Marks.{openingOf, opens, closes, isInteger, isSigned, isType, isScalar, isPlainLeaf, width, leafWidth};
 ghost use Rattle.format.specs.Traits.{traitsOf};
 
 // The letters.
@@ -314,4 +314,24 @@ impl Mark {
         }
         self.is_type()
     }
+}
+
+// The opening mark of an array or object.
+pub fn opening_mark(brace: bool) -> u8
+    ensures { λ r. ⌜ r ≡ opens (openingOf brace) ⌝ }
+{
+    if brace {
+        return OBJECT;
+    }
+    ARRAY
+}
+
+// The closing mark.
+pub fn closing_mark(brace: bool) -> u8
+    ensures { λ r. ⌜ r ≡ closes (openingOf brace) ⌝ }
+{
+    if brace {
+        return OBJECT_END;
+    }
+    ARRAY_END
 }

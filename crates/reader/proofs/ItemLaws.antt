@@ -5,7 +5,7 @@ use mathlib.Core.Bool.{Bool, true, false, true≢false, false≢true}
 use mathlib.Core.List.{List}
 use native.Mathlib.Omega.{arith}
 use Rattle.format.specs.Outcome.{Parsed, fault}
-use Rattle.format.specs.Marks.{Opening}
+use Rattle.format.specs.Marks.{Opening, openingOf}
 use Rattle.format.specs.Tokens.{Forest, none, size, _⊕_, members}
 use Rattle.format.specs.Rows.{rows}
 use Rattle.format.specs.Bytes.{skip}
@@ -15,7 +15,7 @@ use Rattle.format.specs.Containers.{items}
 use Rattle.format.specs.Read.{valueBy}
 use Rattle.format.proofs.Forests.{size-append, members-append}
 use Rattle.rows.specs.Overlay.{lay}
-use Rattle.tokens.specs.Answers.{openingOf, onto, Laid, Meets, Within}
+use Rattle.tokens.specs.Answers.{onto, Laid, Meets, Within}
 use Rattle.tokens.specs.declared.Step.{Step}
 use Rattle.tokens.specs.declared.Step.the-variants.{Fault as Stopped, Next as Went}
 use Rattle.tokens.proofs.Sofar.{lay-forest, seq-read, seq-fault, onto-none, onto-onto, onto-fault, laid-after, laid-onto}

@@ -6,12 +6,12 @@ use mathlib.Core.List.{List}
 use lib.Dec.{eqb}
 use Rattle.format.specs.Conditions.{if_then_else_}
 use Rattle.format.specs.Outcome.{Parsed, fault}
-use Rattle.format.specs.Marks.{Opening, isScalar, 'H', 'S', '[', left-brace}
+use Rattle.format.specs.Marks.{Opening, openingOf, isScalar, 'H', 'S', '[', left-brace}
 use Rattle.format.specs.Tokens.{Forest, size, members}
 use Rattle.format.specs.Rows.{rows}
 use Rattle.format.specs.Sequences.{Reader}
 use Rattle.rows.specs.Overlay.{lay}
-use Rattle.tokens.specs.Answers.{openingOf, onto, Laid, Ends}
+use Rattle.tokens.specs.Answers.{onto, Laid, Ends}
 use Rattle.tokens.specs.declared.Step.{Step}
 use Rattle.tokens.specs.declared.Step.the-variants.{Fault as Stopped, Next as Went}
 use Rattle.reader.specs.declared.items.Class.{Class}

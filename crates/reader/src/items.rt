@@ -13,9 +13,10 @@ use tokens::scalars::text;
 ghost use mathlib.Core.Path.{_≡_};
 ghost use Prim.Native.Nat.{_+_};
 ghost use lib.ListN.{length};
+ghost use Rattle.format.specs.Marks.{openingOf};
 ghost use Rattle.format.specs.Read.{valueBy};
 ghost use Rattle.format.specs.Containers.{items};
-ghost use Rattle.tokens.specs.Answers.{openingOf, Here};
+ghost use Rattle.tokens.specs.Answers.{Here};
 ghost use Rattle.reader.specs.Items.{classOf, class, itemOf, ItemMeets, ItemWithin};
 
 // What a mark begins.

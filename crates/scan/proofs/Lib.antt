@@ -1,3 +1,4 @@
 pub mod All
 pub mod Digits
 pub mod Shape
+pub mod Stands

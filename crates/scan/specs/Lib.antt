@@ -1,3 +1,4 @@
 pub mod Stages
 pub mod Owed
 pub mod Numbers
+pub mod Stands

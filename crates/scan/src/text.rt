@@ -1,6 +1,5 @@
 // Text: UTF-8 by shape.
 ghost use mathlib.Core.Path.{_≡_};
-ghost use Prim.Native.Nat.{_≤_};
 ghost use Rattle.format.specs.Text.{isText};
 ghost use Rattle.scan.specs.Owed.{owedAfterLead, owedAfter};
 

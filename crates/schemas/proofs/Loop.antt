@@ -1,12 +1,12 @@
 -- The loop over the members of a record or a fixed array: before a member, and after it. Assumes nothing.
 use Prim.Native.Nat.{ℕ, zero, suc, _+_, _-_, _≤_, _<_}
 use mathlib.Core.Path.{_≡_, refl, sym, _∙_}
-use mathlib.Core.Bool.{Bool, true, false, _&&_, true≢false}
+use mathlib.Core.Bool.{Bool, true, false}
 use mathlib.Core.List.{List}
 use native.Mathlib.Omega.{arith}
-use lib.ListN.{length, getD}
-use lib.Dec.{ltb, eqb}
-use borrow.Author.Tests.{ltb-true, ltb-false, lt-ltb}
+use lib.ListN.{length}
+use lib.Dec.{ltb}
+use borrow.Author.Tests.{ltb-true, ltb-false, lt-ltb, eq-eqb, ne-eqb}
 use Rattle.format.specs.Conditions.{if_then_else_}
 use Rattle.format.specs.Outcome.{Parsed, fault, done, _>>=_, _>>_, guard}
 use Rattle.format.specs.Limits.{limit}
@@ -20,10 +20,12 @@ use Rattle.format.specs.Sequences.{Reader, _⨾_, until}
 use Rattle.format.specs.Schemas.{group, enclosed}
 use Rattle.format.proofs.Forests.{append-none}
 use Rattle.rows.specs.Row.{store}
+use Rattle.scan.specs.Stands.{stands}
+use Rattle.scan.proofs.Stands.{stands-there, stands-other}
 use Rattle.laws.proofs.Bounds.{byte-starts}
 use Rattle.tokens.specs.Answers.{onto, Here}
 use Rattle.tokens.proofs.Sofar.{seq-fault}
-use Rattle.schemas.specs.Answers.{over, stands, groupAt, arrayAt, recordAt, Read, Meets, Sofar, StartMeets, Ends, Within, StartWithin}
+use Rattle.schemas.specs.Answers.{over, groupAt, arrayAt, recordAt, Read, Meets, Sofar, StartMeets, Ends, Within, StartWithin}
 use Rattle.schemas.specs.declared.Kinds.{Kinds}
 use Rattle.schemas.specs.declared.starts.Start.{Start}
 use Rattle.schemas.specs.declared.starts.Start.the-variants.{Ended, Array, Record}
@@ -32,38 +34,25 @@ use Rattle.schemas.proofs.Sofar.{sofar-start, sofar-as, sofar-step, sof
 
 -- ---- up to a closing mark
 
-stands-true : (m : List ℕ) (at mark : ℕ) → stands m at mark ≡ true → (at < length m) × (eqb (getD m at 0) mark ≡ true)
-unfolding stands
-stands-true m at mark e = go (ltb at (length m)) (eqb (getD m at 0) mark) refl e
-  where
-    go : (b c : Bool) → ltb at (length m) ≡ b → (b && c) ≡ true → (at < length m) × (c ≡ true)
-    go true true k h = (ltb-true _ _ k, refl)
-    go true false k h = absurd (true≢false (sym h))
-    go false c k h = absurd (true≢false (sym h))
-
-pub stands-inside : (m : List ℕ) (at mark : ℕ) → stands m at mark ≡ true → at < length m
-stands-inside m at mark e = stands-true m at mark e .0
-
 module _ (m : List ℕ) (closing : ℕ) (item : Reader) where
   abbrev rest : ℕ → Reader
   rest fuel = until m fuel (λ here. here) closing item
 
   rest-closed : (fuel at row : ℕ) → length m ≤ at + fuel → stands m at closing ≡ true → rest fuel at row ≡ done (none, at)
   unfolding until byte guard _>>_ _>>=_ if_then_else_
-  rest-closed zero at row h e = let s = stands-true m at closing e in absurd (omega arith)
-  rest-closed (suc fuel) at row h e = let s = stands-true m at closing e in rw (lt-ltb _ _ (s .0), s .1)
+  rest-closed zero at row h e = let s = stands-there m at closing e in absurd (omega arith)
+  rest-closed (suc fuel) at row h e = let s = stands-there m at closing e in rw (lt-ltb _ _ (s .0), eq-eqb _ _ (s .1))
 
   -- another item, given that none begins at the message's end
   rest-on : (fuel at row : ℕ) → length m ≤ at + fuel → stands m at closing ≡ false → (length m ≤ at → item at row ≡ fault endsTooEarly (length m))
       → (less : ℕ) × (length m ≤ at + 1 + less) × (rest fuel at row ≡ (item ⨾ rest less) at row)
-  unfolding until byte guard _>>_ _>>=_ if_then_else_ stands
+  unfolding until byte guard _>>_ _>>=_ if_then_else_
   rest-on zero at row h e early = (0, omega arith, sym (seq-fault item (rest 0) at row _ _ (early (omega arith))))
-  rest-on (suc fuel) at row h e early = (fuel, omega arith, go (ltb at (length m)) (eqb (getD m at 0) closing) refl refl e)
+  rest-on (suc fuel) at row h e early = (fuel, omega arith, go (ltb at (length m)) refl)
     where
-      go : (b c : Bool) → ltb at (length m) ≡ b → eqb (getD m at 0) closing ≡ c → (b && c) ≡ false → rest (suc fuel) at row ≡ (item ⨾ rest fuel) at row
-      go true true k l h = absurd (true≢false h)
-      go true false k l h = rw (k, l)
-      go false c k l h = byte-starts m at _ (ltb-false _ _ k) ∙ sym (seq-fault item (rest fuel) at row _ _ (early (ltb-false _ _ k)))
+      go : (b : Bool) → ltb at (length m) ≡ b → rest (suc fuel) at row ≡ (item ⨾ rest fuel) at row
+      go true k = rw (k, ne-eqb _ _ (stands-other m at closing e (ltb-true _ _ k)))
+      go false k = byte-starts m at _ (ltb-false _ _ k) ∙ sym (seq-fault item (rest fuel) at row _ _ (early (ltb-false _ _ k)))
 
 -- ---- the loop
 

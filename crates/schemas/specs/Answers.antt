@@ -1,10 +1,7 @@
 -- How the answers of schemas stand to the outcomes of the definitions, and to the lent words.
 use Prim.Native.Nat.{ℕ, _+_, _-_, _≤_, _<_, min}
 use mathlib.Core.Path.{_≡_}
-use mathlib.Core.Bool.{Bool, _&&_}
 use mathlib.Core.List.{List}
-use lib.ListN.{length, getD}
-use lib.Dec.{ltb, eqb}
 use Rattle.format.specs.Outcome.{Parsed, fault, done}
 use Rattle.format.specs.Limits.{recordLimit}
 use Rattle.format.specs.Marks.{Opening, bracket, brace}
@@ -26,10 +23,6 @@ use Rattle.schemas.specs.declared.starts.Start.the-variants.{Ended, Arra
 -- offsets are told apart up to a record's limit: this one stands for all beyond
 abbrev pub over : ℕ
 over = recordLimit + 1
-
--- a byte is there, and is this one
-unfoldable pub stands : List ℕ → ℕ → ℕ → Bool
-stands m at mark = ltb at (length m) && eqb (getD m at 0) mark
 
 -- a record's or a fixed array's token, at its offset
 abbrev pub groupAt : Kind → ℕ → ℕ → ℕ → ℕ → ℕ → Token

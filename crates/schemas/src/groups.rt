@@ -9,6 +9,7 @@ use format::marks::ARRAY;
 use format::marks::ARRAY_END;
 use format::marks::OBJECT;
 use format::marks::OBJECT_END;
+use scan::bytes::stands;
 use tokens::entry::Entry;
 use tokens::entry::put;
 ghost use mathlib.Core.Path.{_≡_};
@@ -20,17 +21,7 @@ ghost use Rattle.format.specs.Rows.{rowOf};
 ghost use Rattle.format.specs.Schemas.{tableSchema};
 ghost use Rattle.rows.specs.Row.{store as storeIn};
 ghost use Rattle.tokens.specs.Answers.{Here};
-ghost use Rattle.schemas.specs.Answers.{over, stands as standsIn, groupAt, arrayAt, recordAt, Meets, Within};
-
-// Whether a byte is there, and is this one.
-fn stands(message: &[u8], at: usize, mark: u8) -> bool
-    ensures { λ r. ⌜ r ≡ standsIn (now (message .entry)) at mark ⌝ }
-{
-    if message.len() <= at {
-        return false;
-    }
-    message[at] == mark
-}
+ghost use Rattle.schemas.specs.Answers.{over, groupAt, arrayAt, recordAt, Meets, Within};
 
 // Stores the row of a record or a fixed array, once its members are read: it is as wide as they are together.
 fn put_group(

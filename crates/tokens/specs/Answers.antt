@@ -1,12 +1,10 @@
 -- How the core's answers stand to the outcomes of the definitions, and to the lent words.
 use Prim.Native.Nat.{ℕ, _+_, _^_, _≤_, _<_}
 use mathlib.Core.Path.{_≡_}
-use mathlib.Core.Bool.{Bool, true, false}
 use mathlib.Core.List.{List}
 use lib.ListN.{length}
 use Rattle.format.specs.Outcome.{Outcome, Parsed, fault, done, _>>=_}
 use Rattle.format.specs.Limits.{limit}
-use Rattle.format.specs.Marks.{Opening, bracket, brace}
 use Rattle.format.specs.Tokens as Tokens
 use Rattle.format.specs.Tokens.{Forest, alone, size, _⊕_, members}
 use Rattle.format.specs.Rows.{rows}
@@ -17,11 +15,6 @@ use Rattle.tokens.specs.declared.scalars.Place.{Place}
 use Rattle.tokens.specs.declared.scalars.Place.the-variants.{At, Refused}
 use Rattle.tokens.specs.declared.Step.{Step}
 use Rattle.tokens.specs.declared.Step.the-variants.{Fault, Next}
-
--- a brace, or a bracket
-abbrev pub openingOf : Bool → Opening
-openingOf true = brace
-openingOf false = bracket
 
 -- ---- a token's row
 

@@ -7,8 +7,9 @@ use containers::pairs::typed_object;
 use tokens::Step;
 ghost use lib.ListN.{length};
 ghost use Prim.Native.Nat.{_+_, _<_};
+ghost use Rattle.format.specs.Marks.{openingOf};
 ghost use Rattle.format.specs.Containers.{typed as typedAt};
-ghost use Rattle.tokens.specs.Answers.{openingOf, Meets, Here, Within};
+ghost use Rattle.tokens.specs.Answers.{Meets, Here, Within};
 
 // The container at `at`, whose opening mark is followed by `$`.
 pub fn typed(

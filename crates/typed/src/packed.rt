@@ -14,7 +14,6 @@ ghost use mathlib.Core.Bool.{true};
 ghost use mathlib.Core.List.{List};
 ghost use Prim.Native.Nat.{ℕ, _+_, _≤_, _<_};
 ghost use lib.ListN.{length};
-ghost use Rattle.format.specs.Limits.{limit};
 ghost use Rattle.format.specs.Marks.{isType};
 ghost use Rattle.format.specs.Tokens.{Forest, none, node, size, members};
 ghost use Rattle.format.specs.Rows.{rows as rowsOf};

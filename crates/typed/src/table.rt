@@ -1,23 +1,23 @@
 // Tables: a schema, a count, and records by rows or by columns.
 use crate::packed::store_row;
-use containers::lists::opening_mark;
 use contents::tables::table_contents;
 use format::answers::Kind;
 use format::limits::LIMIT;
 use format::limits::RECORD_LIMIT;
 use format::marks::COUNT;
+use format::marks::opening_mark;
 use schemas::Kinds;
 use schemas::groups::table_schema;
 use shapes::counts::Shaped;
 use shapes::counts::shape;
 use tokens::Step;
 use tokens::entry::Entry;
-ghost use mathlib.Core.Path.{_≡_};
 ghost use mathlib.Core.List.{List};
 ghost use Prim.Native.Nat.{ℕ, _+_, _≤_, _<_};
 ghost use lib.ListN.{length};
+ghost use Rattle.format.specs.Marks.{openingOf};
 ghost use Rattle.format.specs.Containers.{table as tableAt};
-ghost use Rattle.tokens.specs.Answers.{openingOf, Meets, Here, Within};
+ghost use Rattle.tokens.specs.Answers.{Meets, Here, Within};
 ghost use Rattle.typed.specs.Tables.{HeaderRead, HeaderWithin};
 
 // The table at `at`, once its schema, of `wide` bytes, and its count are read: `link` is the row after those of both.

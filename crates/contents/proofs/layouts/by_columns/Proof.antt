@@ -8,10 +8,11 @@ use borrow.Author.Needs.{needs}
 use Rattle.format.specs.Marks.{brace, closes}
 use Rattle.format.specs.Tokens.{Forest, belowFirst}
 use Rattle.format.specs.Records.{totalWidth}
+use Rattle.scan.proofs.Stands.{stands-there, stands-other}
 use Rattle.contents.specs.Least.{farthest, nowhere, inFields}
 use Rattle.contents.specs.Tables.{TableAt}
 use Rattle.contents.proofs.Members.{fields-sum}
-use Rattle.contents.proofs.Groups.{RestOf, opened-there, inside, turn-on, turn-closed, turn-next, closed-there, not-closed}
+use Rattle.contents.proofs.Groups.{RestOf, opened-there, inside, turn-on, turn-closed, turn-next}
 use Rattle.contents.proofs.Verdicts.{fields-turned, table-opened, fields-start}
 use Rattle.contents.proofs.layouts.by_columns.Statement.{statement}
 use Rattle.contents.proofs.layouts.by_columns.Tie as tie
@@ -34,12 +35,13 @@ field-requires : tie.Need-field-requires Inv-loop μ-loop
 field-requires c κs = record { narrow = omega arith; near = c .before .before .loop .inv .0; low = c .before .before .loop .inv .1 }
 
 returns-2 : tie.Need-returns-2 Inv-loop μ-loop
+unfolding closes
 returns-2 c = (
   (λ wide lent row next s t.
       let m = c .before .before .before .before .before .before .before .before .args .message .now in
       let r = c .before .before .before .before .before .loop .inv .2 wide lent row next s t in
       let u = fields-turned m lent (c .before .before .before .before .before .before .before .before .args .count) r (c .before .before .before .after-key .result) (c .before .before .field .result) (t .narrow) (t .few) (t .short) (t .inside) (c .before .before .before .after-key .ensures) (c .before .before .field .ensures .0) in
-      turn-closed m lent 7 true r (fields-sum m (c .before .before .before .before .before .before .before .before .args .count)) (c .before .before .field .result) u (closed-there m (c .before .before .field .result .next) (closes brace) (sym (c .before .closed .ensures) ∙ c .if2 .taken) .1) .1 .1),
+      turn-closed m lent 7 true r (fields-sum m (c .before .before .before .before .before .before .before .before .args .count)) (c .before .before .field .result) u (stands-there m (c .before .before .field .result .next) (closes brace) (sym (c .before .stands .ensures) ∙ c .if2 .taken) .1) .1 .1),
   (let p = c .before .before .field .ensures .1 .low in let q = c .before .before .before .before .before .loop .inv .1 in omega arith),
 )
 
@@ -54,6 +56,7 @@ returns-3 c = (
 )
 
 loop-again : tie.Need-loop-again Inv-loop μ-loop
+unfolding closes
 loop-again c = (
   c .before .before .before .field .ensures .1 .near,
   (let p = c .before .before .before .field .ensures .1 .low in let q = c .before .before .before .before .before .before .loop .inv .1 in omega arith),
@@ -61,7 +64,7 @@ loop-again c = (
       let m = c .before .before .before .before .before .before .before .before .before .args .message .now in
       let r = c .before .before .before .before .before .before .loop .inv .2 wide lent row next s t in
       let u = fields-turned m lent (c .before .before .before .before .before .before .before .before .before .args .count) r (c .before .before .before .before .after-key .result) (c .before .before .before .field .result) (t .narrow) (t .few) (t .short) (t .inside) (c .before .before .before .before .after-key .ensures) (c .before .before .before .field .ensures .0) in
-      turn-next m lent 7 true r (fields-sum m (c .before .before .before .before .before .before .before .before .before .args .count)) (c .before .before .before .field .result) u (not-closed m (c .before .before .before .field .result .next) (closes brace) (sym (c .before .before .closed .ensures) ∙ c .before .if2 .left))),
+      turn-next m lent 7 true r (fields-sum m (c .before .before .before .before .before .before .before .before .before .args .count)) (c .before .before .before .field .result) u (stands-other m (c .before .before .before .field .result .next) (closes brace) (sym (c .before .before .stands .ensures) ∙ c .before .if2 .left))),
 )
 
 returns-4 : tie.Need-returns-4 Inv-loop μ-loop

@@ -5,11 +5,10 @@ use native.Mathlib.Omega.{arith}
 use native.Mathlib.Nat.{sub-zero}
 use lib.ListN.{length}
 use borrow.Author.Needs.{needs}
-use Rattle.format.specs.Marks.{closes}
+use Rattle.format.specs.Marks.{openingOf, closes}
 use Rattle.format.specs.Bytes.{skip}
 use Rattle.format.specs.Sequences.{spaced}
 use Rattle.tokens.proofs.Laying.{within-from}
-use Rattle.tokens.specs.Answers.{openingOf}
 use Rattle.reader.specs.Values.{memberOf}
 use Rattle.reader.proofs.ItemLaws.{opened-meets}
 use Rattle.containers.proofs.Closing.{list-cap}
@@ -29,7 +28,7 @@ use Rattle.reader.proofs.values.plain.Reads as plain
 use Rattle.reader.proofs.values.plain.Kinds as plain-kinds
 use Rattle.reader.proofs.values.+container+counted+member+plain.Lts-plain as plain-lts
 use Rattle.containers.proofs.lists.close.Reads as close-reads
-use Rattle.containers.proofs.lists.closing_mark.Reads as closing-mark-reads
+use Rattle.format.proofs.marks.closing_mark.Reads as closing-mark-reads
 use Rattle.reader.proofs.values.header_at.Reads as header-at-reads
 use Rattle.reader.proofs.items.member_start.Reads as member-start-reads
 use Rattle.typed.proofs.container.typed.Reads as typed-reads

@@ -9,9 +9,10 @@ use borrow.Fn.PlainCycle.{Measures, is, falls, and}
 use lib.ListN.{length}
 use Rattle.format.specs.Marks.{bracket, brace, opens, closes}
 use Rattle.format.specs.Tokens.{isKind, schemaRecord, fixedArray}
+use Rattle.scan.proofs.Stands.{stands-there}
 use Rattle.schemas.specs.Answers.{kindAt, fieldAt, Ends}
 use Rattle.schemas.proofs.Cases.{kind-early, field-early}
-use Rattle.schemas.proofs.Loop.{stands-inside, Before, After, loop-start, loop-fault, loop-read, loop-on, loop-end, Member, member-ended, member-array, member-record}
+use Rattle.schemas.proofs.Loop.{Before, After, loop-start, loop-fault, loop-read, loop-on, loop-end, Member, member-ended, member-array, member-record}
 use Rattle.schemas.proofs.groups.array_kinds.Reads as array-kinds
 use Rattle.schemas.proofs.groups.array_kinds.Kinds as array-kinds-kinds
 use Rattle.schemas.proofs.groups.+array_kinds+record_kinds.Lts-array_kinds as array-kinds-lts
@@ -19,7 +20,7 @@ use Rattle.schemas.proofs.groups.record_kinds.Reads as record-kinds
 use Rattle.schemas.proofs.groups.record_kinds.Kinds as record-kinds-kinds
 use Rattle.schemas.proofs.groups.+array_kinds+record_kinds.Lts-record_kinds as record-kinds-lts
 use Rattle.schemas.proofs.groups.put_group.Reads as put-group-reads
-use Rattle.schemas.proofs.groups.stands.Reads as stands-reads
+use Rattle.scan.proofs.bytes.stands.Reads as stands-reads
 use Rattle.schemas.proofs.starts.field_start.Reads as field-start-reads
 use Rattle.schemas.proofs.starts.kind_start.Reads as kind-start-reads
 use Rattle.schemas.proofs.groups.+array_kinds+record_kinds.{statement}
@@ -138,7 +139,7 @@ unfolding closes opens isKind
     let r = array-kinds-read t (c .before .before .before .before .before .before) in
     let b = r .0 .bounds in
     let e = sym (c .before .before .before .before .before .stands .ensures) ∙ c .before .before .before .before .if1 .taken in
-    let i = stands-inside _ _ _ e in
+    let i = stands-there _ _ _ e .0 in
     (loop-end _ _ _ _ _ _ _ _ _ (r .0) e refl _ (c .before .before .put-group .ensures), omega arith))
     (λ c. let b = array-kinds-read t (c .before .before) .1 in omega arith)
     (λ c. (loop-on _ _ _ _ _ _ _ _ _ (array-kinds-read t (c .before .before) .0) (sym (c .before .stands .ensures) ∙ c .if1 .left) (λ h. kind-early _ _ _ _ _ h), array-kinds-member t (c .before .before .before .before .before) .kept ∙ c .before .before .before .before .before .before .before .before .before .before .loop .inv .1)))
@@ -167,7 +168,7 @@ unfolding closes opens isKind
     let r = record-kinds-read t (c .before .before .before .before .before .before) in
     let b = r .0 .bounds in
     let e = sym (c .before .before .before .before .before .stands .ensures) ∙ c .before .before .before .before .if1 .taken in
-    let i = stands-inside _ _ _ e in
+    let i = stands-there _ _ _ e .0 in
     (loop-end _ _ _ _ _ _ _ _ _ (r .0) e refl _ (c .before .before .put-group .ensures), omega arith))
     (λ c. let b = record-kinds-read t (c .before .before) .1 in omega arith)
     (λ c. (loop-on _ _ _ _ _ _ _ _ _ (record-kinds-read t (c .before .before) .0) (sym (c .before .stands .ensures) ∙ c .if1 .left) (λ h. field-early _ _ _ _ _ h), record-kinds-member t (c .before .before .before .before .before) .kept ∙ c .before .before .before .before .before .before .before .before .before .before .loop .inv .1)))

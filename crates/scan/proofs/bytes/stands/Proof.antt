@@ -1,9 +1,9 @@
 -- `stands`: a byte there, and this one. Assumes nothing.
 use borrow.Author.Needs.{needs}
 use borrow.Author.Tests.{lt-ltb, le-ltb}
-use Rattle.schemas.specs.Answers.{stands}
-use Rattle.schemas.proofs.groups.stands.Statement.{statement}
-use Rattle.schemas.proofs.groups.stands.Tie as tie
+use Rattle.scan.specs.Stands.{stands}
+use Rattle.scan.proofs.bytes.stands.Statement.{statement}
+use Rattle.scan.proofs.bytes.stands.Tie as tie
 
 pub stands-spec : {M : Type 1} → statement M
 unfolding stands

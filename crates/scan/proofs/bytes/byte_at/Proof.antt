@@ -2,8 +2,8 @@
 use mathlib.Core.Path.{sym}
 use lib.ListN.{List·getD-eq-default}
 use borrow.Author.Needs.{needs}
-use Rattle.contents.proofs.columns.byte_at.Statement.{statement}
-use Rattle.contents.proofs.columns.byte_at.Tie as tie
+use Rattle.scan.proofs.bytes.byte_at.Statement.{statement}
+use Rattle.scan.proofs.bytes.byte_at.Tie as tie
 
 pub byte-at-spec : {M : Type 1} → statement M
 byte-at-spec = tie.close (tie.spec (λ c. sym (List·getD-eq-default (c .before .args .message .now) 0 (c .if1 .taken))) (λ c. search needs) (λ c. search needs))
