@@ -3,9 +3,12 @@ pub mod Schemas
 pub mod Skips
 pub mod Order
 pub mod Rows
+pub mod Slotless
 pub mod Bounds
 pub mod Loops
 pub mod Slots
+pub mod Rules
+pub mod Related
 pub mod Keeps
 pub mod Added
 pub mod Reading

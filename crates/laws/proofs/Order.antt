@@ -71,7 +71,7 @@ pub record OfSchema (kind : Kind) : Type 0 where
   pub uncut : isCut kind ≡ false
   pub in-record : isOffset kind ≡ true
 
-leaf-kind : OfSchema leafKind
+pub leaf-kind : OfSchema leafKind
 unfolding isKind isCut isOffset
 leaf-kind = record { not-key = refl; uncut = refl; in-record = refl }
 
@@ -80,9 +80,13 @@ unfolding isKind isCut isOffset
 group-kind bracket = record { not-key = refl; uncut = refl; in-record = refl }
 group-kind brace = record { not-key = refl; uncut = refl; in-record = refl }
 
-key-kind : isKind keyKind keyKind ≡ true
+pub key-kind : isKind keyKind keyKind ≡ true
 unfolding isKind
 key-kind = refl
+
+pub key-uncut : isCut keyKind ≡ false
+unfolding isCut isKind
+key-uncut = refl
 
 pub order-placed : {k due : Bool} {low high : ℕ} {f : Forest} (at : ℕ) → Members k due f → InOrder low high f → InOrder low high (placed at f)
 unfolding placed atOffset if_then_else_
