@@ -3,8 +3,9 @@ pub mod Schemas
 pub mod Skips
 pub mod Order
 pub mod Rows
-pub mod Slotless
 pub mod Bounds
+pub mod Counts
+pub mod Slotless
 pub mod Loops
 pub mod Slots
 pub mod Rules

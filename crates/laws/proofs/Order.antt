@@ -84,10 +84,6 @@ pub key-kind : isKind keyKind keyKind ≡ true
 unfolding isKind
 key-kind = refl
 
-pub key-uncut : isCut keyKind ≡ false
-unfolding isCut isKind
-key-uncut = refl
-
 pub order-placed : {k due : Bool} {low high : ℕ} {f : Forest} (at : ℕ) → Members k due f → InOrder low high f → InOrder low high (placed at f)
 unfolding placed atOffset if_then_else_
 order-placed at noMore (stop h) = stop h

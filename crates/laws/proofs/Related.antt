@@ -28,7 +28,8 @@ use Rattle.laws.specs.Places.{InSlots, own, inUnder, inLater}
 use Rattle.laws.proofs.Holds.{any-law, weaken}
 use Rattle.laws.proofs.Schemas.{groupKind, group-one, tableSchema-gives}
 use Rattle.laws.proofs.Order.{isCut, group-kind}
-use Rattle.laws.proofs.Slotless.{Slotless, none-slotless, append-slotless, uncut-slotless, placed-slotless, shape-slotless}
+use Rattle.laws.proofs.Counts.{shape-gives}
+use Rattle.laws.proofs.Slotless.{Slotless, none-slotless, append-slotless, uncut-slotless, placed-slotless, shaped-slotless}
 use Rattle.laws.proofs.Bounds.{Starts, byte-over, byte-starts, oneOf-law, type-wide, container-uncut}
 use Rattle.laws.proofs.Slots.{inside-widen, elements-inside, records-inside, length-count, members-measured, below-measured, below-narrower}
 use Rattle.laws.proofs.Rules.{Part, header, upTo, whole, Passes, nothing-passes, Relation, Rules}
@@ -249,23 +250,23 @@ module _ (m m′ : List ℕ) (r r′ : ℕ) (R : Relation) (rules : Rules m m′
   packed-related : (mark from at row : ℕ) → R Part whole from (from + 1) (Containers.packed m r mark from at row) (Containers.packed m′ r′ mark from at row)
   unfolding Containers.packed
   packed-related mark from at row =
-      rules .rest (λ (n : Dimensions.Shape × ℕ). n .1) from (from + 1) (omega arith) (shape-slotless m r true from _) (shape-related true from _) λ n u.
+      rules .rest (λ (n : Dimensions.Shape × ℕ). n .1) from (from + 1) (omega arith) (shape-gives m r true from _) (shape-related true from _) λ n u.
       rules .test _ _ _ λ _. rules .slots (n .1) _ (rw (length-count 0 (n .0 .many)) at (elements-inside row mark (below (n .0 .many))))
-      (rules .finish _ (stored-passes _ mark at (n .1) _ (n .0) _ u))
+      (rules .finish _ (stored-passes _ mark at (n .1) _ (n .0) _ (shaped-slotless u)))
 
   table-related : (o : Opening) (at row : ℕ) → R Part whole (at + 2) (at + 2 + 1) (Containers.table m r o at row) (Containers.table m′ r′ o at row)
   unfolding Containers.table Schemas.tableSchema
   table-related o at row =
       rules .rest (λ (s : Part). s .1) (at + 2) (at + 2 + 1) (omega arith) (tableSchema-gives m r _ _) (rules .headed (schema-begins _ brace (at + 2) _)) λ s hs.
       rules .lower (omega arith) (omega arith) (mark-then _ (s .1) λ _ _.
-      rules .rest (λ (n : Dimensions.Shape × ℕ). n .1) (s .1 + 1) (s .1 + 1) (omega arith) (shape-slotless m r false _ _)
+      rules .rest (λ (n : Dimensions.Shape × ℕ). n .1) (s .1 + 1) (s .1 + 1) (omega arith) (shape-gives m r false _ _)
       (rules .lower (omega arith) (omega arith) (shape-related false (s .1 + 1) _)) λ n u.
       rules .test _ _ _ λ _. rules .test _ _ _ λ _.
       let d = members-measured (group-one hs false) in
       rules .slots (n .1) _ (inside-widen _ (mul-le-mul-left (n .0 .many) (below-narrower d))
       (rw (length-count 0 (n .0 .many)) at (records-inside o (memberRow row) (below-measured d) (below (n .0 .many)))))
       (rules .finish _ (stored-passes _ _ at (n .1) _ (n .0) _
-      (append-slotless (placed 0 (s .0)) (n .0 .dimensions) (placed-slotless 0 (group-one hs false)) u))))
+      (append-slotless (placed 0 (s .0)) (n .0 .dimensions) (placed-slotless 0 (group-one hs false)) (shaped-slotless u)))))
 
   counted-items-related : (o : Opening) (from at row : ℕ) {item item′ : Reader} → Goes item item′
       → R Part whole from (from + 1) (Containers.counted m r o item from at row) (Containers.counted m′ r′ o item′ from at row)
