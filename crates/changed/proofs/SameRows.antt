@@ -13,7 +13,7 @@ use Rattle.format.specs.Tokens.{Token, Forest}
 use Rattle.format.specs.Rows.{allWords}
 use Rattle.format.specs.Bytes.{bytes}
 use Rattle.format.specs.Read.{read}
-use Rattle.laws.specs.Places.{At, here, under, later, IsCut, InSlots, own, inUnder, inLater, Apart}
+use Rattle.laws.specs.Places.{At, here, under, later, IsCut, InSlots, inOwn, inUnder, inLater, Apart}
 use Rattle.laws.proofs.Holds.{of-done}
 use Rattle.changed.specs.Alike.{Alike, AlikeButSlots}
 use Rattle.changed.proofs.Fixed.{bytes-fixed}
@@ -21,7 +21,7 @@ use Rattle.changed.proofs.Follows.{read-follows}
 
 -- a byte of the payload of a row that is cut into slots
 pub at-slots : {n k i : ℕ} {t : Token} {f below : Forest} → At n f k t below → IsCut (t .kind) → t .payload ≤ i → i < t .payload + t .extent → InSlots i f
-at-slots here c h l = own c h l
+at-slots here c h l = inOwn c h l
 at-slots (under a) c h l = inUnder (at-slots a c h l)
 at-slots (later a) c h l = inLater (at-slots a c h l)
 

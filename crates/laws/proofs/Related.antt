@@ -24,7 +24,7 @@ use Rattle.format.specs.Schemas as Schemas
 use Rattle.format.specs.Containers as Containers
 use Rattle.format.specs.Read as Read
 use Rattle.format.proofs.MarkFacts.{integer-wide}
-use Rattle.laws.specs.Places.{InSlots, own, inUnder, inLater}
+use Rattle.laws.specs.Places.{InSlots, inOwn, inUnder, inLater}
 use Rattle.laws.proofs.Holds.{any-law, weaken}
 use Rattle.laws.proofs.Schemas.{groupKind, group-one, tableSchema-gives}
 use Rattle.laws.proofs.Order.{isCut, group-kind}
@@ -46,7 +46,7 @@ stored-passes kind mark at start extent n f u = record { on = omega arith; cut =
   where
     go : (i : ℕ) → InSlots i (node (record { kind = kind; mark = mark; first = at; payload = start; extent = extent; count = n .many; order = n .order }) f none)
         → (start ≤ i) × (i < start + extent)
-    go i (own k h l) = (h, l)
+    go i (inOwn k h l) = (h, l)
     go i (inUnder c) = absurd (u i c)
     go i (inLater c) = absurd (none-slotless i c)
 

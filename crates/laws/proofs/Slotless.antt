@@ -6,7 +6,7 @@ use mathlib.Core.Logic.{_⊎_, inl, inr}
 use Rattle.format.specs.Conditions.{if_then_else_}
 use Rattle.format.specs.Tokens.{Token, Kind, key as keyKind, dimension as dimensionKind, isKind, Forest, none, node, _⊕_}
 use Rattle.format.specs.Records.{atOffset, placed}
-use Rattle.laws.specs.Places.{IsCut, InSlots, own, inUnder, inLater}
+use Rattle.laws.specs.Places.{IsCut, InSlots, inOwn, inUnder, inLater}
 use Rattle.laws.proofs.Schemas.{Members, noMore, key, leaf, group}
 use Rattle.laws.proofs.Order.{isCut, OfSchema, leaf-kind, group-kind, key-kind}
 use Rattle.laws.proofs.Counts.{Dimensioned, noDimension, oneDimension, Shaped, plain, vector}
@@ -21,7 +21,7 @@ none-slotless i c = elim c [ ]
 pub slots-split : {i : ℕ} (f : Forest) {g : Forest} → InSlots i (f ⊕ g) → InSlots i f ⊎ InSlots i g
 unfolding _⊕_
 slots-split none c = inr c
-slots-split (node t below after) (own k h l) = inl (own k h l)
+slots-split (node t below after) (inOwn k h l) = inl (inOwn k h l)
 slots-split (node t below after) (inUnder c) = inl (inUnder c)
 slots-split (node t below after) (inLater c) = elim (slots-split after c) [ inl d ↦ inl (inLater d) | inr d ↦ inr d ]
 
@@ -35,7 +35,7 @@ cut-is kind (inr e) = rw e
 
 -- a token that isn't cut: what is in slots is below it or after it
 pub uncut-slots : {i : ℕ} {t : Token} {below after : Forest} → isCut (t .kind) ≡ false → InSlots i (node t below after) → InSlots i below ⊎ InSlots i after
-uncut-slots c (own k h l) = absurd (false≢true (sym c ∙ cut-is _ k))
+uncut-slots c (inOwn k h l) = absurd (false≢true (sym c ∙ cut-is _ k))
 uncut-slots c (inUnder d) = inl d
 uncut-slots c (inLater d) = inr d
 

@@ -16,7 +16,7 @@ IsCut kind = (kind ≡ packed) ⊎ (kind ≡ table)
 
 -- byte i lies in the payload of a token of the forest that is cut into slots
 pub data InSlots (i : ℕ) : Forest → Type 0 where
-  own : {t : Token} {below after : Forest} → IsCut (t .kind) → t .payload ≤ i → i < t .payload + t .extent → InSlots i (node t below after)
+  inOwn : {t : Token} {below after : Forest} → IsCut (t .kind) → t .payload ≤ i → i < t .payload + t .extent → InSlots i (node t below after)
   inUnder : {t : Token} {below after : Forest} → InSlots i below → InSlots i (node t below after)
   inLater : {t : Token} {below after : Forest} → InSlots i after → InSlots i (node t below after)
 
