@@ -1,11 +1,10 @@
 -- Two answers that are the same, unless the first is a refusal with a number that is free to change: a rule for each form of the
 -- definitions. Assumes nothing.
-use Prim.Native.Nat.{ℕ, zero, suc}
+use Prim.Native.Nat.{ℕ}
 use mathlib.Core.Path.{_≡_, refl, subst}
 use mathlib.Core.Bool.{Bool, true, false, false≢true}
-use Rattle.format.specs.Conditions.{if_then_else_}
 use Rattle.format.specs.Outcome.{Outcome, fault, _>>=_, _>>_, guard, numberOf}
-use Rattle.format.specs.Sequences.{Reader, _⨾_, repeat}
+use Rattle.format.specs.Sequences.{Reader, _⨾_}
 use Rattle.laws.proofs.Holds.{Holds, refused, holds, any-law}
 
 pub data Keeps (free : ℕ → Type 0) {A : Type 0} : Outcome A → Outcome A → Type 0 where
@@ -35,11 +34,12 @@ pub then-keeps : {free : ℕ → Type 0} {A : Type 0} {o o′ : Outcome (Unit {0
     → Keeps free o o′ → Keeps free r r′ → Keeps free (o >> r) (o′ >> r′)
 then-keeps a k = then-kept (any-law _) a λ _. k
 
-pub if-keeps : {free : ℕ → Type 0} {A : Type 0} (b : Bool) {x y x′ y′ : Outcome A}
-    → Keeps free x x′ → Keeps free y y′ → Keeps free (if b then x else y) (if b then x′ else y′)
-unfolding if_then_else_
-if-keeps true f g = f
-if-keeps false f g = g
+-- the same test of both
+pub test-keeps : {free : ℕ → Type 0} {A : Type 0} {o o′ : Outcome A} (b : Bool) (n p : ℕ) → (b ≡ true → Keeps free o o′)
+    → Keeps free (guard b n p >> o) (guard b n p >> o′)
+unfolding guard _>>_
+test-keeps true n p k = k refl
+test-keeps false n p k = same
 
 -- a test that refuses with a free number, and that passes the second time if it passes the first
 pub guard-keeps : {free : ℕ → Type 0} (b b′ : Bool) (n p p′ : ℕ) → free n → (b ≡ true → b′ ≡ true) → Keeps free (guard b n p) (guard b′ n p′)
@@ -48,18 +48,11 @@ guard-keeps false b′ n p p′ e h = early e
 guard-keeps true true n p p′ e h = same
 guard-keeps true false n p p′ e h = absurd (false≢true (h refl))
 
--- two readers
-abbrev pub Agrees : (ℕ → Type 0) → Reader → Reader → Type 0
-Agrees free r r′ = (at row : ℕ) → Keeps free (r at row) (r′ at row)
-
-pub seq-keeps : {free : ℕ → Type 0} {one one′ next next′ : Reader} → Agrees free one one′ → Agrees free next next′ → Agrees free (one ⨾ next) (one′ ⨾ next′)
+-- one reader, and then another
+pub seq-keeps : {free : ℕ → Type 0} (one one′ other other′ : Reader) (at row : ℕ) → Keeps free (one at row) (one′ at row)
+    → ((next row : ℕ) → Keeps free (other next row) (other′ next row)) → Keeps free ((one ⨾ other) at row) ((one′ ⨾ other′) at row)
 unfolding _⨾_
-seq-keeps a b at row = bind-keeps (a at row) λ _. bind-keeps (b _ _) λ _. same
-
-pub repeat-keeps : {free : ℕ → Type 0} (n : ℕ) {item item′ : Reader} → Agrees free item item′ → Agrees free (repeat n item) (repeat n item′)
-unfolding repeat
-repeat-keeps zero a at row = same
-repeat-keeps (suc n) a at row = seq-keeps a (repeat-keeps n a) at row
+seq-keeps one one′ other other′ at row a b = bind-keeps a λ f. bind-keeps (b _ _) λ _. same
 
 -- used: of a refusal that isn't free to change
 abbrev pub Refuses : (ℕ → Type 0) → {A : Type 0} → Outcome A → Outcome A → Type 0

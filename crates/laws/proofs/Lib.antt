@@ -4,8 +4,12 @@ pub mod Skips
 pub mod Order
 pub mod Rows
 pub mod Bounds
+pub mod Counts
+pub mod Slotless
 pub mod Loops
 pub mod Slots
+pub mod Rules
+pub mod Related
 pub mod Keeps
 pub mod Added
 pub mod Reading

@@ -27,7 +27,7 @@ module _ {A : Type 0} where
     nil : Inside end []
     slot : {s : Slot A} {ss : List (Slot A)} → s .offset + s .wide ≤ end → Inside end ss → Inside end (s ∷ ss)
 
-  inside-widen : {ss : List (Slot A)} {end : ℕ} (end′ : ℕ) → end ≤ end′ → Inside end ss → Inside end′ ss
+  pub inside-widen : {ss : List (Slot A)} {end : ℕ} (end′ : ℕ) → end ≤ end′ → Inside end ss → Inside end′ ss
   inside-widen end′ h nil = nil
   inside-widen end′ h (slot k i) = slot (le-trans k h) (inside-widen end′ h i)
 

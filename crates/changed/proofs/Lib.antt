@@ -1,0 +1,4 @@
+pub mod Fixed
+pub mod Follows
+pub mod SameRows
+pub mod SameAnswers

@@ -1,0 +1,1 @@
+// Laws about two messages that differ in some bytes alone. No code.
