@@ -1,0 +1,4 @@
+pub mod KindNumbers
+pub mod Places
+pub mod Payloads
+pub mod Numbering

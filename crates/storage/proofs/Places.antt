@@ -1,0 +1,109 @@
+-- The tokens of a forest by their rows: each row has one, and the words that hold the forest's rows have its row there. Assumes nothing.
+use Prim.Native.Nat.{ℕ, suc, _+_, _*_, _≤_, _<_}
+use mathlib.Core.Path.{_≡_, refl, sym, subst, ap, _∙_}
+use mathlib.Core.List.{List, [], _∷_, _++_, append-assoc}
+use native.Mathlib.Omega.{arith}
+use native.Mathlib.Decide.{decLt}
+use lib.ListN.{length, length-append}
+use Rattle.format.specs.Tokens.{Token, Forest, none, node, size}
+use Rattle.format.specs.Rows.{Row, rowAt, rowWords, rowOf, rows, wordsOf, allRows, allWords, zeros}
+use Rattle.format.proofs.RowWords.{length-words, row-there, row-past, zero-kind}
+use Rattle.laws.proofs.Rows.{length-rows}
+use Rattle.storage.specs.Places.{At, here, under, later, Field, own, next, Filled}
+
+-- ---- rows
+
+-- a token and those below it stand within the forest's rows
+pub at-size : {n k : ℕ} {f v : Forest} {t : Token} → At n f k t v → (n ≤ k) × (suc k + size v ≤ n + size f)
+unfolding size
+at-size here = (omega arith, omega arith)
+at-size (under x) = let i = at-size x in (omega arith, omega arith)
+at-size (later x) = let i = at-size x in (omega arith, omega arith)
+
+pub no-at : {n k : ℕ} {t : Token} {v : Forest} → At n none k t v → ⊥
+no-at x = elim x [ ]
+
+-- every row of a forest is a token's
+pub at-exists : (f : Forest) (n k : ℕ) → n ≤ k → k < n + size f → (t : Token) × (v : Forest) × At n f k t v
+unfolding size
+at-exists none n k h q = absurd (omega arith)
+at-exists (node t below after) n k h q = elim (decLt n k) [
+  | no p ↦ (let e : n ≡ k = omega arith in (t, below, subst (λ (x : ℕ). At n (node t below after) x t below) e here))
+  | yes p ↦ elim (decLt k (suc n + size below)) [
+    | yes r ↦ (let x = at-exists below (suc n) k p (omega arith) in (x .0, x .1, under (x .2)))
+    | no r ↦ (let x = at-exists after (suc n + size below) k (omega arith) (omega arith) in (x .0, x .1, later (x .2)))
+  ]
+]
+
+-- and of one only
+pub at-same : {n k : ℕ} {f v v′ : Forest} {t t′ : Token} → At n f k t v → At n f k t′ v′ → (t ≡ t′) × (v ≡ v′)
+at-same here here = (refl, refl)
+at-same here (under y) = let w = at-size y in absurd (omega arith)
+at-same here (later y) = let w = at-size y in absurd (omega arith)
+at-same (under x) here = let w = at-size x in absurd (omega arith)
+at-same (later x) here = let w = at-size x in absurd (omega arith)
+at-same (under x) (under y) = at-same x y
+at-same (later x) (later y) = at-same x y
+at-same (under x) (later y) = let w = at-size x in let z = at-size y in absurd (omega arith)
+at-same (later x) (under y) = let w = at-size x in let z = at-size y in absurd (omega arith)
+
+-- a row below a row
+pub at-below : {n k j : ℕ} {f v w : Forest} {t u : Token} → At n f k t v → At (suc k) v j u w → At n f j u w
+at-below here y = under y
+at-below (under x) y = under (at-below x y)
+at-below (later x) y = later (at-below x y)
+
+-- ---- fields
+
+-- every row of a schema is in a field
+pub at-field : {n k : ℕ} {f v : Forest} {t : Token} → At n f k t v → (row : ℕ) × (u : Token) × Field n f row u k t
+at-field {n} (here {t = t}) = (n, t, own here)
+at-field {n} (under {t = t} x) = (n, t, own (under x))
+at-field (later x) = let r = at-field x in (r .0, r .1, next (r .2))
+
+pub field-at : {n row k : ℕ} {f : Forest} {u t : Token} → Field n f row u k t → (v : Forest) × At n f k t v
+field-at (own here) = (_, here)
+field-at (own (under x)) = (_, under x)
+field-at (own (later x)) = absurd (no-at x)
+field-at (next x) = let r = field-at x in (r .0, later (r .1))
+
+-- ---- words
+
+-- the rows before a token's, and those after
+at-split : {n k : ℕ} {f v : Forest} {t : Token} → At n f k t v
+    → (before : List Row) × (after : List Row) × (rows n f ≡ before ++ rowOf t (suc k + size v) ∷ after) × (n + length before ≡ k)
+unfolding rows
+at-split {n} (here {below = below} {after = after}) = ([], rows (suc n) below ++ rows (suc n + size below) after, refl, omega arith)
+at-split {n} (under {t = t} {below = below} {after = after} x) =
+    let r = at-split x in
+    let rest = rows (suc n + size below) after in
+    (rowOf t (suc n + size below) ∷ r .0, r .1 ++ rest, ap (λ l. rowOf t (suc n + size below) ∷ l ++ rest) (r .2) ∙ ap (λ l. rowOf t (suc n + size below) ∷ l) (append-assoc (r .0) _ rest), (let e = r .3 in omega arith))
+at-split {n} (later {t = t} {below = below} x) =
+    let r = at-split x in
+    let inner = rows (suc n) below in (
+      rowOf t (suc n + size below) ∷ inner ++ r .0,
+      r .1,
+      ap (λ l. rowOf t (suc n + size below) ∷ inner ++ l) (r .2) ∙ ap (λ l. rowOf t (suc n + size below) ∷ l) (sym (append-assoc inner (r .0) _)),
+      (let e = r .3 in omega (arith, length-append inner (r .0), length-rows (suc n) below)),
+    )
+
+-- the words have the row of every token of a forest whose first is at row n
+abbrev pub Rowed : List ℕ → ℕ → Forest → Type 0
+Rowed ws n f = (k : ℕ) (t : Token) (v : Forest) → At n f k t v → rowAt ws k ≡ rowOf t (suc k + size v)
+
+module _ (f : Forest) (ws : List ℕ) (filled : Filled f ws) where
+  pub filled-rows : Rowed ws 0 f
+  unfolding allWords allRows
+  filled-rows k t v x =
+      let s = at-split x in
+      rw (filled .words-are, s .2) (row-there (s .0) (s .1) _ (zeros (filled .spare)) k (let q = s .3 in omega arith))
+
+  -- and no row after those
+  pub filled-after : (k : ℕ) → size f ≤ k → rowAt ws k .kind ≡ 0
+  unfolding allWords allRows
+  filled-after k h =
+      rw (filled .words-are, row-past (rows 0 f) (zeros (filled .spare)) k (omega (arith, length-rows 0 f))) (zero-kind (filled .spare) _)
+
+  pub filled-enough : size f * rowWords ≤ length ws
+  unfolding allWords allRows
+  filled-enough = rw (filled .words-are) (omega (arith, length-append (wordsOf (rows 0 f)) (zeros (filled .spare)), length-words (rows 0 f), length-rows 0 f))

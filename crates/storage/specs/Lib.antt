@@ -1,0 +1,4 @@
+pub mod Places
+pub mod Addresses
+pub mod Tiles
+pub mod Verdicts

@@ -1,0 +1,32 @@
+-- Slots and regions side by side: end to end, apart, and the one that holds a byte.
+use Prim.Native.Nat.{ℕ, _+_, _≤_, _<_}
+use mathlib.Core.Path.{_≡_}
+use mathlib.Core.List.{List, [], _∷_}
+use mathlib.Core.Logic.{_⊎_}
+use Rattle.format.specs.Outcome.{Outcome, done}
+use Rattle.format.specs.Tokens.{Forest}
+use Rattle.format.specs.Storage.{Slot}
+use Rattle.format.specs.Addresses.{Region}
+use Rattle.storage.specs.Addresses.{Address, InRange}
+
+-- slots from one offset to another, each where the one before ends
+pub data Tiles {A : Type 0} (end : ℕ) : ℕ → List (Slot A) → Type 0 where
+  noSlot : {from : ℕ} → from ≡ end → Tiles end from []
+  slot : {from : ℕ} {s : Slot A} {ss : List (Slot A)} → s .offset ≡ from → Tiles end (from + s .wide) ss → Tiles end from (s ∷ ss)
+
+-- n bytes from one place and k bytes from another share none: one part ends where the other starts, or before
+abbrev pub Apart : ℕ → ℕ → ℕ → ℕ → Type 0
+Apart a n b k = (a + n ≤ b) ⊎ (b + k ≤ a)
+
+-- a byte of a region
+abbrev pub InRegion : ℕ → Region → Type 0
+InRegion byte r = (r .first ≤ byte) × (byte < r .first + r .wide)
+
+-- a byte lies in the region of exactly one address that is answered, and that one is in range
+pub record InOne (f : Forest) (answer : Address → Outcome Region) (byte : ℕ) : Type 0 where
+  pub address : Address
+  pub in-range : InRange f address
+  pub region : Region
+  pub answered : answer address ≡ done region
+  pub holds : InRegion byte region
+  pub only : (b : Address) (r : Region) → answer b ≡ done r → InRegion byte r → b ≡ address
