@@ -71,7 +71,7 @@ pub record OfSchema (kind : Kind) : Type 0 where
   pub uncut : isCut kind ≡ false
   pub in-record : isOffset kind ≡ true
 
-leaf-kind : OfSchema leafKind
+pub leaf-kind : OfSchema leafKind
 unfolding isKind isCut isOffset
 leaf-kind = record { not-key = refl; uncut = refl; in-record = refl }
 
@@ -80,7 +80,7 @@ unfolding isKind isCut isOffset
 group-kind bracket = record { not-key = refl; uncut = refl; in-record = refl }
 group-kind brace = record { not-key = refl; uncut = refl; in-record = refl }
 
-key-kind : isKind keyKind keyKind ≡ true
+pub key-kind : isKind keyKind keyKind ≡ true
 unfolding isKind
 key-kind = refl
 

@@ -13,7 +13,7 @@ use Rattle.format.specs.Tokens.{Token, kindNumber, leaf as leafKind, isKind, Fo
 use Rattle.format.specs.Records.{memberWidth, totalWidth}
 use Rattle.format.specs.Indexes.{countFrom}
 use Rattle.format.specs.Storage.{Slot, endToEnd, elements, leaves, byRows, byColumns, records}
-use Rattle.laws.proofs.Schemas.{groupKind, Members, noMore, key, leaf, group}
+use Rattle.laws.proofs.Schemas.{Members, noMore, key, leaf, group}
 use Rattle.laws.proofs.Order.{OfSchema, group-kind}
 
 -- tokens that are as wide as those below them
@@ -90,9 +90,10 @@ length-count k (suc n) = ap suc (length-count (suc k) n)
 
 -- ---- what reads a schema gives such tokens
 
-group-width : (o : Opening) (t : Token) → t .kind ≡ groupKind o → memberWidth t ≡ t .extent
+-- a schema's token that is no key
+pub member-width : (t : Token) → OfSchema (t .kind) → memberWidth t ≡ t .extent
 unfolding memberWidth if_then_else_
-group-width o t e = let s : OfSchema (t .kind) = rw e (group-kind o) in rw (s .not-key)
+member-width t s = rw (s .not-key)
 
 pub members-measured : {k due : Bool} {f : Forest} → Members k due f → Measured f
 unfolding totalWidth
@@ -100,7 +101,7 @@ members-measured noMore = nothing
 members-measured (key i r) = wide zero-le nothing (members-measured r)
 members-measured (leaf i r) = wide zero-le nothing (members-measured r)
 members-measured (group o {t = t} {below = below} i e u r) =
-    let s = group-width o t (i .kind-is) in
+    let s = member-width t (rw (i .kind-is) (group-kind o)) in
     let h : totalWidth below ≤ memberWidth t = omega arith in
     wide h (members-measured u) (members-measured r)
 
