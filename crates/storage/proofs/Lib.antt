@@ -4,3 +4,5 @@ pub mod Payloads
 pub mod Numbering
 pub mod Offsets
 pub mod Cuts
+pub mod Counts
+pub mod Stored

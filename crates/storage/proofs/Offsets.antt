@@ -25,7 +25,7 @@ module _ (offset : ℕ) (t : Token) (below after : Forest) where
   unfolding placed if_then_else_
   key-placed e = let k : isKind keyKind (t .kind) ≡ true = rw e key-kind in rw k
 
-  member-placed : OfSchema (t .kind) → placed offset (node t below after) ≡ node (atOffset offset t) (placed offset below) (placed (offset + t .extent) after)
+  pub member-placed : OfSchema (t .kind) → placed offset (node t below after) ≡ node (atOffset offset t) (placed offset below) (placed (offset + t .extent) after)
   unfolding placed if_then_else_
   member-placed s = rw (s .not-key)
 

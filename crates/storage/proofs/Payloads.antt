@@ -10,7 +10,7 @@ use Rattle.storage.specs.Places.{At, here, under, later}
 use Rattle.storage.specs.Addresses.{IsCut}
 use Rattle.storage.specs.Tiles.{Apart}
 
-cut-is : (k : Kind) → IsCut k → (isCut k ≡ true) × (isOffset k ≡ false)
+pub cut-is : (k : Kind) → IsCut k → (isCut k ≡ true) × (isOffset k ≡ false)
 unfolding isCut isOffset isKind
 cut-is k (inl e) = rw e (refl, refl)
 cut-is k (inr e) = rw e (refl, refl)
