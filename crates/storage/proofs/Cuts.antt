@@ -1,7 +1,7 @@
 -- A payload cut in storage order: its slots lie end to end, and each stands where the formula says. Assumes nothing.
 use Prim.Native.Nat.{ℕ, suc, _+_, _*_, _≤_}
 use mathlib.Core.Path.{_≡_, refl, sym, subst, ap, _∙_}
-use mathlib.Core.Bool.{Bool, true, false, false≢true}
+use mathlib.Core.Bool.{Bool, true, false}
 use mathlib.Core.List.{List, [], _∷_, _++_, List·Memᴰ, List·Memᴰ·head, List·Memᴰ·tail, List·Memᴰ·not-nil, List·Memᴰ·cases-cons, List·Memᴰ·append-cases, List·Memᴰ·eq-of-singleton, Memᴰ·append-left, Memᴰ·append-right, Memᴰ·cast}
 use mathlib.Core.Logic.{_⊎_, inl, inr}
 use native.Mathlib.Omega.{arith}
@@ -9,7 +9,7 @@ use native.Mathlib.Nat.{suc-mul, mul-add}
 use lib.ListN.{length}
 use Rattle.format.specs.Conditions.{if_then_else_}
 use Rattle.format.specs.Marks.{Opening, bracket, brace, width}
-use Rattle.format.specs.Tokens.{Token, Kind, key as keyKind, leaf as leafKind, isKind, Forest, none, node, size}
+use Rattle.format.specs.Tokens.{Token, key as keyKind, leaf as leafKind, isKind, Forest, none, node, size}
 use Rattle.format.specs.Records.{memberWidth, totalWidth}
 use Rattle.format.specs.Storage.{Slot, endToEnd, elements, leaves, byRows, byColumns}
 use Rattle.laws.proofs.Schemas.{groupKind}
@@ -18,6 +18,7 @@ use Rattle.laws.proofs.Slots.{member-width}
 use Rattle.storage.specs.Places.{At, here, under, later, Field, own, next}
 use Rattle.storage.specs.Tiles.{Tiles, noSlot, slot}
 use Rattle.storage.specs.Formulas.{inRecord, inColumn}
+use Rattle.storage.proofs.KindNumbers.{key-no-leaf, group-no-leaf}
 use Rattle.storage.proofs.Places.{no-at, at-field, field-at}
 use Rattle.storage.proofs.Numbering.{Numbered, stop, step, numbered-length}
 use Rattle.storage.proofs.Offsets.{Placed, placedNone, placedKey, placedLeaf, placedGroup}
@@ -87,19 +88,6 @@ leaf-width t e = member-width t (rw e leaf-kind)
 group-width : (o : Opening) (t : Token) → t .kind ≡ groupKind o → memberWidth t ≡ t .extent
 group-width o t e = member-width t (rw e (group-kind o))
 
-not-leaf : (k : Kind) → isKind leafKind k ≡ false → k ≡ leafKind → ⊥
-unfolding isKind
-not-leaf k e q = false≢true (sym (rw q at e))
-
-key-not : isKind leafKind keyKind ≡ false
-unfolding isKind
-key-not = refl
-
-group-not : (o : Opening) → isKind leafKind (groupKind o) ≡ false
-unfolding isKind
-group-not bracket = refl
-group-not brace = refl
-
 -- the slot of a leaf
 abbrev pub leafSlot : {A : Type 0} → ℕ → Token → A → ℕ → Slot A
 leafSlot leafRow l a offset = record { leafRow = leafRow; element = a; mark = l .mark; offset = offset; wide = l .extent }
@@ -143,7 +131,7 @@ module _ {A : Type 0} (a : A) where
   in-leaves : {offset n leafRow : ℕ} {f v : Forest} {l : Token} → Placed offset f → At n f leafRow l v → l .kind ≡ leafKind
       → (at place : ℕ) → place + offset ≡ at + l .payload → List·Memᴰ (leafSlot leafRow l a place) (leaves n f a at)
   in-leaves placedNone x k at place q = absurd (no-at x)
-  in-leaves (placedKey {t = t} {after = after} e r) here k at place q = absurd (not-leaf keyKind key-not (sym e ∙ k))
+  in-leaves (placedKey {t = t} {after = after} e r) here k at place q = absurd (key-no-leaf e k)
   in-leaves (placedKey {t = t} {after = after} e r) (under x) k at place q = absurd (no-at x)
   in-leaves {n = n} (placedKey {t = t} {after = after} e r) (later x) k at place q = rw (leaves-key n at t after e) (in-leaves r x k at place q)
   in-leaves {n = n} (placedLeaf {t = t} {after = after} e p r) here k at place q =
@@ -152,7 +140,7 @@ module _ {A : Type 0} (a : A) where
   in-leaves (placedLeaf {t = t} {after = after} e p r) (under x) k at place q = absurd (no-at x)
   in-leaves {n = n} (placedLeaf {t = t} {after = after} e p r) (later x) k at place q =
       rw (leaves-leaf n at t after e) (List·Memᴰ·tail (in-leaves r x k (at + t .extent) place (omega arith)))
-  in-leaves (placedGroup o {t = t} e p w u r) here k at place q = absurd (not-leaf (groupKind o) (group-not o) (sym e ∙ k))
+  in-leaves (placedGroup o {t = t} e p w u r) here k at place q = absurd (group-no-leaf o e k)
   in-leaves {n = n} (placedGroup o {t = t} {below = below} {after = after} e p w u r) (under x) k at place q =
       rw (leaves-group o n at t below after e) (Memᴰ·append-left _ (in-leaves u x k at place q))
   in-leaves {n = n} (placedGroup o {t = t} {below = below} {after = after} e p w u r) (later x) k at place q =
@@ -197,7 +185,7 @@ module _ {A : Type 0} (a : A) where
 -- a leaf stands at the first member's offset or later
 leaf-from : {offset n leafRow : ℕ} {f v : Forest} {l : Token} → Placed offset f → At n f leafRow l v → l .kind ≡ leafKind → offset ≤ l .payload
 leaf-from placedNone x k = absurd (no-at x)
-leaf-from (placedKey e r) here k = absurd (not-leaf keyKind key-not (sym e ∙ k))
+leaf-from (placedKey e r) here k = absurd (key-no-leaf e k)
 leaf-from (placedKey e r) (under x) k = absurd (no-at x)
 leaf-from (placedKey e r) (later x) k = leaf-from r x k
 leaf-from (placedLeaf e p r) here k = omega arith
@@ -223,7 +211,7 @@ rest {offset} (placedGroup o {t = t} e p w u r) = rw (group-width o t e) r
 -- a member that is a leaf or holds one is no key
 holds-leaf : {offset n leafRow : ℕ} {t l : Token} {below v : Forest} → Placed offset (node t below none) → At n (node t below none) leafRow l v → l .kind ≡ leafKind
     → (t .payload ≡ offset) × (memberWidth t ≡ t .extent)
-holds-leaf (placedKey e r) here k = absurd (not-leaf keyKind key-not (sym e ∙ k))
+holds-leaf (placedKey e r) here k = absurd (key-no-leaf e k)
 holds-leaf (placedKey e r) (under x) k = absurd (no-at x)
 holds-leaf (placedKey e r) (later x) k = absurd (no-at x)
 holds-leaf (placedLeaf {t = t} e p r) x k = (p, leaf-width t e)

@@ -1,10 +1,12 @@
--- A kind is told by its number. Assumes nothing.
+-- A kind is told by its number; keys, schemas and fixed arrays are no leaves. Assumes nothing.
+use Prim.Native.Nat.{ℕ}
 use mathlib.Core.Path.{_≡_, refl, sym, ap, _∙_}
-use mathlib.Core.Bool.{true}
 use mathlib.Core.List.{List, [], _∷_}
+use native.Mathlib.Omega.{arith}
 use lib.ListN.{getD}
-use Rattle.format.specs.Tokens.{Kind, kindNumber, isKind, scalar, text, highPrecision, key, array, object, packed, table, leaf, schemaRecord, fixedArray, dimension}
-use borrow.Author.Tests.{eqb-true}
+use Rattle.format.specs.Marks.{Opening, bracket, brace}
+use Rattle.format.specs.Tokens.{Kind, kindNumber, scalar, text, highPrecision, key, array, object, packed, table, leaf, schemaRecord, fixedArray, dimension}
+use Rattle.laws.proofs.Schemas.{groupKind}
 
 -- the kinds by their numbers; 0 is none's
 byNumber : List Kind
@@ -27,3 +29,10 @@ found dimension = refl
 
 pub same-number : (k l : Kind) → kindNumber k ≡ kindNumber l → k ≡ l
 same-number k l e = sym (found k) ∙ ap (λ n. getD byNumber n scalar) e ∙ found l
+
+pub key-no-leaf : {k : Kind} → k ≡ key → k ≡ leaf → ⊥
+key-no-leaf e q = let z : _≡_ {A = ℕ} 0 1 = cc in omega arith
+
+pub group-no-leaf : (o : Opening) {k : Kind} → k ≡ groupKind o → k ≡ leaf → ⊥
+group-no-leaf bracket e q = let z : _≡_ {A = ℕ} 0 1 = cc in omega arith
+group-no-leaf brace e q = let z : _≡_ {A = ℕ} 0 1 = cc in omega arith

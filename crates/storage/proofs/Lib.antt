@@ -6,3 +6,5 @@ pub mod Offsets
 pub mod Cuts
 pub mod Counts
 pub mod Stored
+pub mod Walks
+pub mod Seek
