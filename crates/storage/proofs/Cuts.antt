@@ -11,13 +11,13 @@ use Rattle.format.specs.Conditions.{if_then_else_}
 use Rattle.format.specs.Marks.{Opening, bracket, brace, width}
 use Rattle.format.specs.Tokens.{Token, key as keyKind, leaf as leafKind, isKind, Forest, none, node, size}
 use Rattle.format.specs.Records.{memberWidth, totalWidth}
-use Rattle.format.specs.Storage.{Slot, endToEnd, elements, leaves, byRows, byColumns}
+use Rattle.format.specs.Storage.{Slot, endToEnd, elements, leaves, byRows, byColumns, records}
 use Rattle.laws.proofs.Schemas.{groupKind}
 use Rattle.laws.proofs.Order.{leaf-kind, group-kind}
 use Rattle.laws.proofs.Slots.{member-width}
 use Rattle.storage.specs.Places.{At, here, under, later, Field, own, next}
 use Rattle.storage.specs.Tiles.{Tiles, noSlot, slot}
-use Rattle.storage.specs.Formulas.{inRecord, inColumn}
+use Rattle.storage.specs.Formulas.{inRecord, inColumn, formulaOf}
 use Rattle.storage.proofs.KindNumbers.{key-no-leaf, group-no-leaf}
 use Rattle.storage.proofs.Places.{no-at, at-field, field-at}
 use Rattle.storage.proofs.Numbering.{Numbered, stop, step, numbered-length}
@@ -274,31 +274,25 @@ module _ {A : Type 0} {number : A → ℕ} {count : ℕ} {l : List A} (numbered 
 
   -- ---- by rows
 
-  abbrev rowsFormula : ℕ → Token → Token → ℕ → ℕ
-  rowsFormula wide field token r = inRecord r wide (token .payload)
-
   module _ (n : ℕ) {f : Forest} (p : Placed 0 f) where
-    pub rows-tile : Tiles (count * totalWidth f) 0 (byRows n f l)
+    rows-tile : Tiles (count * totalWidth f) 0 (byRows n f l)
     unfolding byRows
     rows-tile = tiles-at 0 _ refl (omega arith) (endToEnd-tile (totalWidth f) _ (λ a at. leaves-tiles a n at p) 0)
 
-    pub in-rows : {leafRow : ℕ} {v : Forest} {t : Token} {a : A} → At n f leafRow t v → t .kind ≡ leafKind → List·Memᴰ a l
+    in-rows : {row leafRow : ℕ} {u t : Token} {a : A} → Field n f row u leafRow t → t .kind ≡ leafKind → List·Memᴰ a l
         → List·Memᴰ (leafSlot leafRow t a (inRecord (number a) (totalWidth f) (t .payload))) (byRows n f l)
     unfolding byRows
-    in-rows {a = a} x k m = in-cut numbered 0 (totalWidth f) _ m (in-leaves a p x k _ _ (omega arith))
+    in-rows {a = a} x k m = in-cut numbered 0 (totalWidth f) _ m (in-leaves a p (field-at x .1) k _ _ (omega arith))
 
-    pub of-rows : {s : Slot A} → List·Memᴰ s (byRows n f l) → TableSlot n f (rowsFormula (totalWidth f)) s
+    of-rows : {s : Slot A} → List·Memᴰ s (byRows n f l) → TableSlot n f (formulaOf bracket count (totalWidth f)) s
     unfolding byRows
     of-rows {s} m =
         let x = of-cut numbered 0 (totalWidth f) _ m in
         let y = of-leaves (x .0) n _ p (x .2) in
         let z = at-field (y .found) in
-        table-slot (rowsFormula (totalWidth f)) (z .2) (y .is-leaf) (x .1) (y .slot-is) (let q = y .place-is in omega arith)
+        table-slot (formulaOf bracket count (totalWidth f)) (z .2) (y .is-leaf) (x .1) (y .slot-is) (let q = y .place-is in omega arith)
 
   -- ---- by columns
-
-  abbrev columnsFormula : Token → Token → ℕ → ℕ
-  columnsFormula field token r = inColumn count (field .payload) r (field .extent) (token .payload)
 
   columns-tile-from : {offset : ℕ} (n at : ℕ) (f : Forest) → Placed offset f → Tiles (at + count * totalWidth f) at (byColumns n f l at)
   unfolding byColumns totalWidth
@@ -308,7 +302,7 @@ module _ {A : Type 0} {number : A → ℕ} {count : ℕ} {l : List A} (numbered 
       (tiles-append (endToEnd-tile (memberWidth t) _ (λ a b. tiles-at b _ refl (omega arith) (leaves-tiles a n b (alone p))) at)
       (tiles-at _ _ refl (omega (arith, mul-add count (memberWidth t) (totalWidth after))) (columns-tile-from _ (at + count * memberWidth t) after (rest p))))
 
-  pub columns-tile : (n : ℕ) {f : Forest} → Placed 0 f → Tiles (count * totalWidth f) 0 (byColumns n f l 0)
+  columns-tile : (n : ℕ) {f : Forest} → Placed 0 f → Tiles (count * totalWidth f) 0 (byColumns n f l 0)
   columns-tile n {f} p = tiles-at 0 _ refl (omega arith) (columns-tile-from n 0 f p)
 
   no-columns : (n at : ℕ) {s : Slot A} → List·Memᴰ s (byColumns n none l at) → ⊥
@@ -325,7 +319,7 @@ module _ {A : Type 0} {number : A → ℕ} {count : ℕ} {l : List A} (numbered 
   columns-step offset n t below after = rw (counted, mul-add count offset (memberWidth t))
 
   in-columns-from : {offset n row leafRow : ℕ} {f : Forest} {u t : Token} {a : A} → Placed offset f → Field n f row u leafRow t → t .kind ≡ leafKind → List·Memᴰ a l
-      → List·Memᴰ (leafSlot leafRow t a (columnsFormula u t (number a))) (byColumns n f l (count * offset))
+      → List·Memᴰ (leafSlot leafRow t a (inColumn count (u .payload) (number a) (u .extent) (t .payload))) (byColumns n f l (count * offset))
   unfolding column
   in-columns-from {offset} {n} {a = a} p (own {t = u} {below = below} {after = after} x) k m =
       let h = holds-leaf (alone p) x k in
@@ -336,10 +330,10 @@ module _ {A : Type 0} {number : A → ℕ} {count : ℕ} {l : List A} (numbered 
   in-columns-from {offset} {n} p (next {u = u} {below = below} {after = after} x) k m =
       rw (columns-step offset n u below after) (Memᴰ·append-right (column n u below (count * offset)) (in-columns-from (rest p) x k m))
 
-  of-columns-from : {offset n : ℕ} (f : Forest) {s : Slot A} → Placed offset f → List·Memᴰ s (byColumns n f l (count * offset)) → TableSlot n f columnsFormula s
+  of-columns-from : {offset n : ℕ} (wide : ℕ) (f : Forest) {s : Slot A} → Placed offset f → List·Memᴰ s (byColumns n f l (count * offset)) → TableSlot n f (formulaOf brace count wide) s
   unfolding column
-  of-columns-from {n = n} none p m = absurd (no-columns n _ m)
-  of-columns-from {offset} {n} (node t below after) {s} p m =
+  of-columns-from {n = n} wide none p m = absurd (no-columns n _ m)
+  of-columns-from {offset} {n} wide (node t below after) {s} p m =
       elim (List·Memᴰ·append-cases (column n t below (count * offset)) (rw (columns-step offset n t below after) at m)) [
         | inl h ↦ (
             let x = of-cut numbered (count * offset) (memberWidth t) _ h in
@@ -348,9 +342,9 @@ module _ {A : Type 0} {number : A → ℕ} {count : ℕ} {l : List A} (numbered 
             let g = leaf-from (alone p) (y .found) (y .is-leaf) in
             let c = ap (λ z. count * z) (h .0) in
             let d = ap (λ z. number (x .0) * z) (h .1) in
-            table-slot columnsFormula (own (y .found)) (y .is-leaf) (x .1) (y .slot-is) (let q = y .place-is in omega arith))
+            table-slot (formulaOf brace count wide) (own (y .found)) (y .is-leaf) (x .1) (y .slot-is) (let q = y .place-is in omega arith))
         | inr h ↦ (
-            let x = of-columns-from after (rest p) h in
+            let x = of-columns-from wide after (rest p) h in
             record { row = x .row; field = x .field; token = x .token; found = next (x .found); is-leaf = x .is-leaf; in-list = x .in-list; slot-is = x .slot-is })
       ]
 
@@ -359,9 +353,28 @@ module _ {A : Type 0} {number : A → ℕ} {count : ℕ} {l : List A} (numbered 
     first : byColumns n f l (count * 0) ≡ byColumns n f l 0
     first = let e : count * 0 ≡ 0 = omega arith in rw e
 
-    pub in-columns : {row leafRow : ℕ} {u t : Token} {a : A} → Field n f row u leafRow t → t .kind ≡ leafKind → List·Memᴰ a l
-        → List·Memᴰ (leafSlot leafRow t a (columnsFormula u t (number a))) (byColumns n f l 0)
+    in-columns : {row leafRow : ℕ} {u t : Token} {a : A} → Field n f row u leafRow t → t .kind ≡ leafKind → List·Memᴰ a l
+        → List·Memᴰ (leafSlot leafRow t a (inColumn count (u .payload) (number a) (u .extent) (t .payload))) (byColumns n f l 0)
     in-columns x k m = rw first at (in-columns-from p x k m)
 
-    pub of-columns : {s : Slot A} → List·Memᴰ s (byColumns n f l 0) → TableSlot n f columnsFormula s
-    of-columns m = of-columns-from f p (rw (← first) at m)
+    of-columns : {s : Slot A} → List·Memᴰ s (byColumns n f l 0) → TableSlot n f (formulaOf brace count (totalWidth f)) s
+    of-columns m = of-columns-from (totalWidth f) f p (rw (← first) at m)
+
+  -- ---- by either
+
+  module _ (n : ℕ) {f : Forest} (p : Placed 0 f) where
+    pub records-tile : (o : Opening) → Tiles (count * totalWidth f) 0 (records o n f l)
+    unfolding records
+    records-tile bracket = rows-tile n p
+    records-tile brace = columns-tile n p
+
+    pub in-records : (o : Opening) {row leafRow : ℕ} {u t : Token} {a : A} → Field n f row u leafRow t → t .kind ≡ leafKind → List·Memᴰ a l
+        → List·Memᴰ (leafSlot leafRow t a (formulaOf o count (totalWidth f) u t (number a))) (records o n f l)
+    unfolding records
+    in-records bracket x k m = in-rows n p x k m
+    in-records brace x k m = in-columns n p x k m
+
+    pub of-records : (o : Opening) {s : Slot A} → List·Memᴰ s (records o n f l) → TableSlot n f (formulaOf o count (totalWidth f)) s
+    unfolding records
+    of-records bracket m = of-rows n p m
+    of-records brace m = of-columns n p m
