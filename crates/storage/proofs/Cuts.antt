@@ -30,7 +30,7 @@ module _ {A : Type 0} where
   no-slot : {from end : ℕ} → from ≡ end → Tiles {A = A} end from []
   no-slot h = noSlot h
 
-  tiles-at : {from end : ℕ} {ss : List (Slot A)} (from′ end′ : ℕ) → from ≡ from′ → end ≡ end′ → Tiles end from ss → Tiles end′ from′ ss
+  pub tiles-at : {from end : ℕ} {ss : List (Slot A)} (from′ end′ : ℕ) → from ≡ from′ → end ≡ end′ → Tiles end from ss → Tiles end′ from′ ss
   tiles-at from′ end′ p q (noSlot h) = no-slot (omega arith)
   tiles-at from′ end′ p q (slot {s = s} h r) = let e : s .offset ≡ from′ = omega arith in slot e (tiles-at (from′ + s .wide) end′ (omega arith) q r)
 

@@ -8,3 +8,4 @@ pub mod Counts
 pub mod Stored
 pub mod Walks
 pub mod Seek
+pub mod Storage

@@ -1,0 +1,147 @@
+-- The storage of a packed array and of a table that reading gives. Assumes nothing.
+use Prim.Native.Nat.{ℕ, _+_, _*_, _≤_}
+use mathlib.Core.Path.{_≡_, refl, sym, subst, ap, _∙_}
+use mathlib.Core.Bool.{Bool, true, false}
+use mathlib.Core.List.{List, [], _∷_, List·Memᴰ, List·Memᴰ·head, List·Memᴰ·tail}
+use native.Mathlib.Omega.{arith}
+use native.Mathlib.Nat.{mul-one}
+use lib.Dec.{eqb}
+use Rattle.format.specs.Conditions.{if_then_else_}
+use Rattle.format.specs.Marks.{Opening, bracket, brace, opens, width}
+use Rattle.format.specs.Tokens.{Token, packed as packedKind, table as tableKind, leaf as leafKind, isKind, plainCount, Forest, none, node, belowFirst, afterFirst, counts}
+use Rattle.format.specs.Records.{totalWidth}
+use Rattle.format.specs.Indexes.{product, indexes, numberIn}
+use Rattle.format.specs.Storage.{Slot, memberRow, elements, records, layoutOf, slotsOf, dimensionsOf, storage}
+use Rattle.storage.specs.Places.{At, Field}
+use Rattle.storage.specs.Addresses.{Address, inPacked, inTable, addressOf, Below}
+use Rattle.storage.specs.Formulas.{formulaOf}
+use Rattle.storage.specs.Tiles.{Tiles, noSlot, slot}
+use Rattle.storage.proofs.Numbering.{Numbered, indexes-numbered, in-indexes, of-indexes}
+use Rattle.storage.proofs.Counts.{Shaped, plain, vector}
+use Rattle.storage.proofs.Stored.{IsPacked, IsTable, Stored, packedArray, recordTable}
+use Rattle.storage.proofs.Cuts.{tiles-at, leafSlot, elementSlot, elements-tile, in-elements, of-elements, TableSlot, records-tile, in-records, of-records}
+
+-- as many elements or records as the count says
+counted : {highest order n : ℕ} {f : Forest} → Shaped highest order n f → product (if eqb order plainCount then n ∷ [] else counts f) ≡ n
+unfolding product if_then_else_
+counted (plain {n = n}) = mul-one n
+counted (vector e h v) = rw e
+
+-- their indexes are numbered by the formula
+numbered : (order n : ℕ) (ds : List ℕ) → product ds ≡ n → Numbered (numberIn order ds) n 0 (indexes order ds)
+numbered order n ds e = subst (λ x. Numbered (numberIn order ds) x 0 (indexes order ds)) e (indexes-numbered order ds)
+
+-- ---- a packed array
+
+module _ (row : ℕ) (t : Token) (below : Forest) (ok : IsPacked t below) where
+  pub packed-dimensions : dimensionsOf t below ≡ (if eqb (t .order) plainCount then t .count ∷ [] else counts below)
+  unfolding dimensionsOf isKind if_then_else_
+  packed-dimensions = rw (ok .kind-is)
+
+  packed-numbered : Numbered (numberIn (t .order) (dimensionsOf t below)) (t .count) 0 (indexes (t .order) (dimensionsOf t below))
+  packed-numbered = numbered (t .order) (t .count) (dimensionsOf t below) (ap product packed-dimensions ∙ counted (ok .shaped))
+
+  packed-storage : storage row t below ≡ elements row (t .mark) (indexes (t .order) (dimensionsOf t below))
+  unfolding storage slotsOf isKind if_then_else_
+  packed-storage = rw (ok .kind-is)
+
+  pub packed-address : (s : Slot (List ℕ)) → addressOf row t s ≡ inPacked row (s .element)
+  unfolding addressOf isKind if_then_else_
+  packed-address s = rw (ok .kind-is)
+
+  pub packed-tiles : Tiles (t .extent) 0 (storage row t below)
+  packed-tiles = rw packed-storage (tiles-at 0 _ refl (sym (ok .extent-is)) (elements-tile packed-numbered row (t .mark)))
+
+  -- the element with these indexes
+  abbrev pub elementAt : List ℕ → Slot (List ℕ)
+  elementAt is = elementSlot row (t .mark) is (numberIn (t .order) (dimensionsOf t below) is * width (t .mark))
+
+  pub in-packed : {is : List ℕ} → Below is (dimensionsOf t below) → List·Memᴰ (elementAt is) (storage row t below)
+  in-packed h = rw packed-storage (in-elements packed-numbered row (t .mark) _ (in-indexes (t .order) (dimensionsOf t below) h) refl)
+
+  pub of-packed : {s : Slot (List ℕ)} → List·Memᴰ s (storage row t below) → Below (s .element) (dimensionsOf t below) × (s ≡ elementAt (s .element))
+  of-packed m =
+      let x = of-elements packed-numbered row (t .mark) (rw packed-storage at m) in
+      (of-indexes (t .order) (dimensionsOf t below) (x .0), x .1)
+
+-- ---- a table
+
+module _ (row : ℕ) (t s : Token) (members dims : Forest) (ok : IsTable t s members dims) where
+  pub table-dimensions : dimensionsOf t (node s members dims) ≡ (if eqb (t .order) plainCount then t .count ∷ [] else counts dims)
+  unfolding dimensionsOf isKind if_then_else_ afterFirst
+  table-dimensions = rw (ok .kind-is)
+
+  table-numbered : Numbered (numberIn (t .order) (dimensionsOf t (node s members dims))) (t .count) 0 (indexes (t .order) (dimensionsOf t (node s members dims)))
+  table-numbered = numbered (t .order) (t .count) (dimensionsOf t (node s members dims)) (ap product table-dimensions ∙ counted (ok .shaped))
+
+  layout-is : (o : Opening) → layoutOf (opens o) ≡ o
+  unfolding layoutOf opens if_then_else_
+  layout-is bracket = refl
+  layout-is brace = refl
+
+  table-storage : storage row t (node s members dims) ≡ records (ok .opening) (memberRow row) members (indexes (t .order) (dimensionsOf t (node s members dims)))
+  unfolding storage slotsOf isKind if_then_else_ belowFirst
+  table-storage = rw (ok .kind-is, ok .mark-is, layout-is (ok .opening))
+
+  pub table-address : (x : Slot (List ℕ)) → addressOf row t x ≡ inTable row (x .leafRow) (x .element)
+  unfolding addressOf isKind if_then_else_
+  table-address x = rw (ok .kind-is)
+
+  pub table-tiles : Tiles (t .extent) 0 (storage row t (node s members dims))
+  table-tiles = rw table-storage (tiles-at 0 _ refl (ap (λ w. t .count * w) (sym (ok .width-is)) ∙ sym (ok .extent-is)) (records-tile table-numbered (memberRow row) (ok .offsets) (ok .opening)))
+
+  -- the slot of a leaf, in its field, and of the record with these indexes; records have so many bytes
+  abbrev leafOf : ℕ → ℕ → Token → Token → List ℕ → Slot (List ℕ)
+  leafOf wide leafRow field l is = leafSlot leafRow l is (formulaOf (ok .opening) (t .count) wide field l (numberIn (t .order) (dimensionsOf t (node s members dims)) is))
+
+  abbrev pub leafAt : ℕ → Token → Token → List ℕ → Slot (List ℕ)
+  leafAt = leafOf (s .extent)
+
+  pub in-table : {fieldRow leafRow : ℕ} {field l : Token} {is : List ℕ} → Field (memberRow row) members fieldRow field leafRow l → l .kind ≡ leafKind
+      → Below is (dimensionsOf t (node s members dims)) → List·Memᴰ (leafAt leafRow field l is) (storage row t (node s members dims))
+  in-table {leafRow = leafRow} {field = field} {l = l} {is = is} x k h =
+      rw table-storage
+      (subst (λ w. List·Memᴰ (leafOf w leafRow field l is) (records (ok .opening) (memberRow row) members (indexes (t .order) (dimensionsOf t (node s members dims))))) (sym (ok .width-is))
+      (in-records table-numbered (memberRow row) (ok .offsets) (ok .opening) x k (in-indexes (t .order) (dimensionsOf t (node s members dims)) h)))
+
+  -- what a slot of the table is
+  pub record Leaf (x : Slot (List ℕ)) : Type 0 where
+    pub fieldRow : ℕ
+    pub field : Token
+    pub token : Token
+    pub found : Field (memberRow row) members fieldRow field (x .leafRow) token
+    pub is-leaf : token .kind ≡ leafKind
+    pub in-range : Below (x .element) (dimensionsOf t (node s members dims))
+    pub slot-is : x ≡ leafAt (x .leafRow) field token (x .element)
+
+  pub of-table : {x : Slot (List ℕ)} → List·Memᴰ x (storage row t (node s members dims)) → Leaf x
+  of-table {x} m =
+      let y = of-records table-numbered (memberRow row) (ok .offsets) (ok .opening) (rw table-storage at m) in
+      record {
+        fieldRow = y .row;
+        field = y .field;
+        token = y .token;
+        found = y .found;
+        is-leaf = y .is-leaf;
+        in-range = of-indexes (t .order) (dimensionsOf t (node s members dims)) (y .in-list);
+        slot-is = y .slot-is ∙ ap (λ w. leafOf w (x .leafRow) (y .field) (y .token) (x .element)) (sym (ok .width-is));
+      }
+
+-- ---- either
+
+pub stored-tiles : {t : Token} {below : Forest} (row : ℕ) → Stored t below → Tiles (t .extent) 0 (storage row t below)
+stored-tiles {t} {below} row (packedArray ok) = packed-tiles row t below ok
+stored-tiles {t} row (recordTable {s = s} {members = members} {dimensions = dims} ok) = table-tiles row t s members dims ok
+
+-- slots that lie end to end lie inside
+pub tiles-end : {A : Type 0} {from end : ℕ} {ss : List (Slot A)} → Tiles end from ss → from ≤ end
+tiles-end (noSlot h) = omega arith
+tiles-end (slot h r) = let x = tiles-end r in omega arith
+
+pub tiles-inside : {A : Type 0} {from end : ℕ} {ss : List (Slot A)} {s : Slot A} → Tiles end from ss → List·Memᴰ s ss → (from ≤ s .offset) × (s .offset + s .wide ≤ end)
+tiles-inside (slot {s = x} h r) (List·Memᴰ·head e) =
+    let y = tiles-end r in
+    let p = ap (λ z. z .offset) e in
+    let q = ap (λ z. z .wide) e in
+    (omega arith, omega arith)
+tiles-inside (slot h r) (List·Memᴰ·tail m) = let x = tiles-inside r m in (omega arith, omega arith)
