@@ -217,6 +217,11 @@ holds-leaf (placedKey e r) (later x) k = absurd (no-at x)
 holds-leaf (placedLeaf {t = t} e p r) x k = (p, leaf-width t e)
 holds-leaf (placedGroup o {t = t} e p w u r) x k = (p, group-width o t e)
 
+-- a leaf stands in its field
+pub field-from : {offset n row leafRow : ℕ} {f : Forest} {u l : Token} → Placed offset f → Field n f row u leafRow l → l .kind ≡ leafKind → u .payload ≤ l .payload
+field-from p (own x) k = let h = holds-leaf (alone p) x k in let g = leaf-from (alone p) x k in omega arith
+field-from p (next x) k = field-from (rest p) x k
+
 -- ---- packed arrays and tables, of elements or records in their order
 
 module _ {A : Type 0} {number : A → ℕ} {count : ℕ} {l : List A} (numbered : Numbered number count 0 l) where

@@ -9,3 +9,4 @@ pub mod Stored
 pub mod Walks
 pub mod Seek
 pub mod Storage
+pub mod Calls

@@ -61,11 +61,24 @@ at-field {n} (here {t = t}) = (n, t, own here)
 at-field {n} (under {t = t} x) = (n, t, own (under x))
 at-field (later x) = let r = at-field x in (r .0, r .1, next (r .2))
 
+-- and a field has a row itself
+pub field-row : {n row k : ℕ} {f : Forest} {u t : Token} → Field n f row u k t → (v : Forest) × At n f row u v
+field-row (own x) = (_, here)
+field-row (next x) = let r = field-row x in (r .0, later (r .1))
+
 pub field-at : {n row k : ℕ} {f : Forest} {u t : Token} → Field n f row u k t → (v : Forest) × At n f k t v
 field-at (own here) = (_, here)
 field-at (own (under x)) = (_, under x)
 field-at (own (later x)) = absurd (no-at x)
 field-at (next x) = let r = field-at x in (r .0, later (r .1))
+
+-- a row is in one field only
+pub field-same : {n k row row′ : ℕ} {f : Forest} {u u′ t t′ : Token} → Field n f row u k t → Field n f row′ u′ k t′ → (u ≡ u′) × (t ≡ t′)
+unfolding size
+field-same (own x) (own y) = (refl, at-same x y .0)
+field-same (own x) (next y) = let v = at-size x in let w = at-size (field-at y .1) in absurd (omega arith)
+field-same (next x) (own y) = let v = at-size (field-at x .1) in let w = at-size y in absurd (omega arith)
+field-same (next x) (next y) = field-same x y
 
 -- ---- words
 

@@ -24,7 +24,7 @@ use Rattle.storage.proofs.Places.{Rowed, at-size, no-at, field-at}
 use Rattle.storage.proofs.Walks.{is-one, isnt-a, along-done, along-over}
 
 -- no leaf of a forest, whose first token is at row n, stands at a row
-abbrev NoLeaf : ℕ → Forest → ℕ → Type 0
+abbrev pub NoLeaf : ℕ → Forest → ℕ → Type 0
 NoLeaf n f leafRow = (l : Token) (v : Forest) → At n f leafRow l v → l .kind ≡ leafKind → ⊥
 
 -- what the walk answers: the field that is the leaf or holds it, or a refusal if that row is no leaf's
