@@ -1,8 +1,9 @@
 -- The address calls at the packed rows and table rows of a message: what they answer, for any leaf and any indexes. Assumes nothing.
 use Prim.Native.Nat.{ℕ, suc, _+_, _-_, _*_, _/_, _≤_}
 use mathlib.Core.Path.{_≡_, refl, sym, subst, ap, _∙_}
-use mathlib.Core.Bool.{Bool, true, false, false≢true}
+use mathlib.Core.Bool.{true}
 use mathlib.Core.List.{List, [], _∷_}
+use mathlib.Core.Logic.{inl, inr}
 use native.Mathlib.Omega.{arith}
 use native.Mathlib.Numerals.{add-one}
 use lib.ListN.{length}
@@ -20,22 +21,14 @@ use Rattle.format.specs.Addresses.{Region, isPacked, isTable, isSchema, along, 
 use Rattle.storage.specs.Places.{At, here, under, later, Field, Filled}
 use Rattle.storage.specs.Addresses.{regionOf, Below}
 use Rattle.storage.specs.Formulas.{formulaOf}
-use Rattle.storage.proofs.Places.{Rowed, at-size, at-below, field-row, field-at, filled-rows, filled-enough}
-use Rattle.storage.proofs.Numbering.{below-range, range-below}
+use Rattle.storage.proofs.Places.{Rowed, at-size, at-below, field-row, field-at, field-same, filled-rows, filled-enough}
+use Rattle.storage.proofs.Numbering.{below-range, below-case, not-in-range}
 use Rattle.storage.proofs.Counts.{order-most}
 use Rattle.storage.proofs.Stored.{IsPacked, IsTable}
 use Rattle.storage.proofs.Walks.{is-a, is-one, along-done, dimensions-done, inside-done}
 use Rattle.storage.proofs.Seek.{NoLeaf, Sought, found, missing, seek-law}
 use Rattle.storage.proofs.Cuts.{field-from}
 use Rattle.storage.proofs.Storage.{packed-dimensions, packed-tiles, elementAt, in-packed, table-dimensions, table-tiles, leafAt, in-table, tiles-inside}
-
--- indexes that aren't in range are refused
-not-in-range : (ds is : List ℕ) → (Below is ds → ⊥) → inRange ds is ≡ false
-not-in-range ds is c = go (inRange ds is) refl
-  where
-    go : (b : Bool) → inRange ds is ≡ b → b ≡ false
-    go true e = absurd (c (range-below ds is e))
-    go false e = refl
 
 module _ (f : Forest) (ws : List ℕ) (filled : Filled f ws) (messageBytes : ℕ) where
   rowed : Rowed ws 0 f
@@ -170,15 +163,13 @@ module _ (f : Forest) (ws : List ℕ) (filled : Filled f ws) (messageBytes : ℕ
         ≡ (guard (inRange (dimensionsOf t (node s members dims)) is) notThere 0 >> answer field l (numberIn (t .order) (dimensionsOf t (node s members dims)) is))
         → TableAnswer leafRow is (tableSlot ws messageBytes k leafRow is)
     unfolding guard _>>_ regionOf
-    table-found {leafRow = leafRow} {field = field} {l = l} is x kind e = go (inRange (dimensionsOf t (node s members dims)) is) refl
-      where
-        go : (b : Bool) → inRange (dimensionsOf t (node s members dims)) is ≡ b → TableAnswer leafRow is (tableSlot ws messageBytes k leafRow is)
-        go true q =
-            let h = range-below (dimensionsOf t (node s members dims)) is q in
-            let i = tiles-inside (table-tiles k t s members dims ok) (in-table k t s members dims ok x kind h) in
-            let d = answer-done (ok .opening) (ok .mark-is) field l (numberIn (t .order) (dimensionsOf t (node s members dims)) is) (field-from (ok .offsets) x kind) (omega arith) in
-            subst (TableAnswer leafRow is) (sym (e ∙ rw q d)) (aLeaf x kind h)
-        go false q = subst (TableAnswer leafRow is) (sym (e ∙ rw q)) (noIndexes x kind (λ h. false≢true (sym q ∙ below-range h)))
+    table-found {leafRow = leafRow} {field = field} {l = l} is x kind e = elim (below-case (dimensionsOf t (node s members dims)) is) [
+      | inl h ↦ (
+          let i = tiles-inside (table-tiles k t s members dims ok) (in-table k t s members dims ok x kind h) in
+          let d = answer-done (ok .opening) (ok .mark-is) field l (numberIn (t .order) (dimensionsOf t (node s members dims)) is) (field-from (ok .offsets) x kind) (omega arith) in
+          subst (TableAnswer leafRow is) (sym (e ∙ rw (below-range h) d)) (aLeaf x kind h))
+      | inr c ↦ subst (TableAnswer leafRow is) (sym (e ∙ rw (not-in-range (dimensionsOf t (node s members dims)) is c))) (noIndexes x kind c)
+    ]
 
     pub table-answer : (leafRow : ℕ) (is : List ℕ) → TableAnswer leafRow is (tableSlot ws messageBytes k leafRow is)
     table-answer leafRow is = go (seek ws leafRow (length ws) (suc k) (suc (suc k))) refl (walk leafRow)
@@ -186,3 +177,15 @@ module _ (f : Forest) (ws : List ℕ) (filled : Filled f ws) (messageBytes : ℕ
         go : (o : Outcome ℕ) → seek ws leafRow (length ws) (suc k) (suc (suc k)) ≡ o → Sought (suc (suc k)) members leafRow o → TableAnswer leafRow is (tableSlot ws messageBytes k leafRow is)
         go o e (missing c) = rw (table-missing leafRow is e) (noLeaf (rw members-at c))
         go o e (found x kind) = table-found is (rw (← members-at) at x) kind (table-call is x e)
+
+    -- a leaf of the schema, with indexes in range
+    pub leaf-answer : {fieldRow leafRow : ℕ} {field l : Token} {is : List ℕ} → Field (memberRow k) members fieldRow field leafRow l → l .kind ≡ leafKind
+        → Below is (dimensionsOf t (node s members dims)) → tableSlot ws messageBytes k leafRow is ≡ done (regionOf t (leafAt k t s members dims ok leafRow field l is))
+    leaf-answer {leafRow = leafRow} {field = field} {l = l} {is = is} x kind h = go (table-answer leafRow is)
+      where
+        go : {o : Outcome Region} → TableAnswer leafRow is o → o ≡ done (regionOf t (leafAt k t s members dims ok leafRow field l is))
+        go (noLeaf c) = let y = field-at x in absurd (c l (y .0) (y .1) kind)
+        go (noIndexes y q c) = absurd (c h)
+        go (aLeaf {l = low} y q i) =
+            let e = field-same y x in
+            ap (λ z. done (regionOf t (leafAt k t s members dims ok leafRow z low is))) (e .0) ∙ ap (λ z. done (regionOf t (leafAt k t s members dims ok leafRow field z is))) (e .1)

@@ -10,3 +10,5 @@ pub mod Walks
 pub mod Seek
 pub mod Storage
 pub mod Calls
+pub mod Verdicts
+pub mod Addresses

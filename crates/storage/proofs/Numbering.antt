@@ -22,7 +22,7 @@ unfolding inRange
 below-range noIndex = refl
 below-range (index {i = i} {d = d} h r) = rw (lt-ltb i d h) (below-range r)
 
-pub range-below : (ds is : List ℕ) → inRange ds is ≡ true → Below is ds
+range-below : (ds is : List ℕ) → inRange ds is ≡ true → Below is ds
 unfolding inRange
 range-below [] [] e = noIndex
 range-below [] (i ∷ is) e = absurd (false≢true e)
@@ -32,6 +32,21 @@ range-below (d ∷ ds) (i ∷ is) e = go (ltb i d) refl e (range-below ds is)
     go : (b : Bool) → ltb i d ≡ b → (b && inRange ds is) ≡ true → (inRange ds is ≡ true → Below is ds) → Below (i ∷ is) (d ∷ ds)
     go true q e rest = index (ltb-true i d q) (rest e)
     go false q e rest = absurd (false≢true e)
+
+-- indexes are in range or not
+pub below-case : (ds is : List ℕ) → Below is ds ⊎ (Below is ds → ⊥)
+below-case ds is = go (inRange ds is) refl
+  where
+    go : (b : Bool) → inRange ds is ≡ b → Below is ds ⊎ (Below is ds → ⊥)
+    go true e = inl (range-below ds is e)
+    go false e = inr (λ h. false≢true (sym e ∙ below-range h))
+
+pub not-in-range : (ds is : List ℕ) → (Below is ds → ⊥) → inRange ds is ≡ false
+not-in-range ds is c = go (inRange ds is) refl
+  where
+    go : (b : Bool) → inRange ds is ≡ b → b ≡ false
+    go true e = absurd (c (range-below ds is e))
+    go false e = refl
 
 -- ---- the members of these lists
 

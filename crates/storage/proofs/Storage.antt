@@ -1,9 +1,11 @@
 -- The storage of a packed array and of a table that reading gives. Assumes nothing.
-use Prim.Native.Nat.{ℕ, _+_, _*_, _≤_}
+use Prim.Native.Nat.{ℕ, _+_, _*_, _≤_, _<_}
 use mathlib.Core.Path.{_≡_, refl, sym, subst, ap, _∙_}
 use mathlib.Core.Bool.{Bool, true, false}
 use mathlib.Core.List.{List, [], _∷_, List·Memᴰ, List·Memᴰ·head, List·Memᴰ·tail}
+use mathlib.Core.Logic.{_⊎_, inl, inr}
 use native.Mathlib.Omega.{arith}
+use native.Mathlib.Decide.{decLt}
 use native.Mathlib.Nat.{mul-one}
 use lib.Dec.{eqb}
 use Rattle.format.specs.Conditions.{if_then_else_}
@@ -15,7 +17,7 @@ use Rattle.format.specs.Storage.{Slot, memberRow, elements, records, layoutOf, 
 use Rattle.storage.specs.Places.{At, Field}
 use Rattle.storage.specs.Addresses.{Address, inPacked, inTable, addressOf, Below}
 use Rattle.storage.specs.Formulas.{formulaOf}
-use Rattle.storage.specs.Tiles.{Tiles, noSlot, slot}
+use Rattle.storage.specs.Tiles.{Tiles, noSlot, slot, Apart}
 use Rattle.storage.proofs.Numbering.{Numbered, indexes-numbered, in-indexes, of-indexes}
 use Rattle.storage.proofs.Counts.{Shaped, plain, vector}
 use Rattle.storage.proofs.Stored.{IsPacked, IsTable, Stored, packedArray, recordTable}
@@ -145,3 +147,28 @@ tiles-inside (slot {s = x} h r) (List·Memᴰ·head e) =
     let q = ap (λ z. z .wide) e in
     (omega arith, omega arith)
 tiles-inside (slot h r) (List·Memᴰ·tail m) = let x = tiles-inside r m in (omega arith, omega arith)
+
+-- a byte in between lies in one of them
+pub tiles-hold : {A : Type 0} {from end : ℕ} {ss : List (Slot A)} (byte : ℕ) → Tiles end from ss → from ≤ byte → byte < end
+    → (s : Slot A) × List·Memᴰ s ss × (s .offset ≤ byte) × (byte < s .offset + s .wide)
+tiles-hold byte (noSlot h) p q = absurd (omega arith)
+tiles-hold {from = from} byte (slot {s = s} h r) p q = elim (decLt byte (from + s .wide)) [
+  | yes k ↦ (s, List·Memᴰ·head refl, omega arith, omega arith)
+  | no k ↦ (let x = tiles-hold byte r (omega arith) q in (x .0, List·Memᴰ·tail (x .1), x .2, x .3))
+]
+
+-- two of them are one, or lie apart
+pub tiles-apart : {A : Type 0} {from end : ℕ} {ss : List (Slot A)} {x y : Slot A} → Tiles end from ss → List·Memᴰ x ss → List·Memᴰ y ss
+    → (x ≡ y) ⊎ Apart (x .offset) (x .wide) (y .offset) (y .wide)
+tiles-apart t (List·Memᴰ·head p) (List·Memᴰ·head q) = inl (p ∙ sym q)
+tiles-apart (slot {s = s} h r) (List·Memᴰ·head p) (List·Memᴰ·tail q) =
+    let i = tiles-inside r q in
+    let a = ap (λ z. z .offset) p in
+    let b = ap (λ z. z .wide) p in
+    inr (inl (omega arith))
+tiles-apart (slot {s = s} h r) (List·Memᴰ·tail p) (List·Memᴰ·head q) =
+    let i = tiles-inside r p in
+    let a = ap (λ z. z .offset) q in
+    let b = ap (λ z. z .wide) q in
+    inr (inr (omega arith))
+tiles-apart (slot h r) (List·Memᴰ·tail p) (List·Memᴰ·tail q) = tiles-apart r p q

@@ -18,6 +18,9 @@ pub data Tiles {A : Type 0} (end : ℕ) : ℕ → List (Slot A) → Type 0 where
 abbrev pub Apart : ℕ → ℕ → ℕ → ℕ → Type 0
 Apart a n b k = (a + n ≤ b) ⊎ (b + k ≤ a)
 
+abbrev pub RegionsApart : Region → Region → Type 0
+RegionsApart r q = Apart (r .first) (r .wide) (q .first) (q .wide)
+
 -- a byte of a region
 abbrev pub InRegion : ℕ → Region → Type 0
 InRegion byte r = (r .first ≤ byte) × (byte < r .first + r .wide)
