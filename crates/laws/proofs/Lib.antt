@@ -4,6 +4,7 @@ pub mod Skips
 pub mod Order
 pub mod Rows
 pub mod Bounds
+pub mod Counts
 pub mod Loops
 pub mod Slots
 pub mod Keeps

@@ -14,10 +14,11 @@ use Rattle.format.specs.Indexes.{numberIn}
 use Rattle.format.specs.Storage.{Slot, memberRow, dimensionsOf, storage}
 use Rattle.format.specs.Addresses.{Region}
 use Rattle.format.specs.Read.{read}
-use Rattle.storage.specs.Places.{At, Field, Filled}
-use Rattle.storage.specs.Addresses.{Address, inPacked, inTable, indexesOf, call, addressOf, regionOf, IsCut, Names, packedRow, tableLeaf, Below, InRange, inRange}
+use Rattle.laws.specs.Places.{At, IsCut, Apart}
+use Rattle.storage.specs.Places.{Field, Filled}
+use Rattle.storage.specs.Addresses.{Address, inPacked, inTable, indexesOf, call, addressOf, regionOf, Names, packedRow, tableLeaf, Below, InRange, inRange}
 use Rattle.storage.specs.Formulas.{inRecord, inColumn}
-use Rattle.storage.specs.Tiles.{Tiles, Apart, RegionsApart, InOne}
+use Rattle.storage.specs.Tiles.{Tiles, RegionsApart, InOne}
 use Rattle.storage.specs.Verdicts.{Verdict, wrongRows, wrongIndexes, answered}
 use Rattle.storage.proofs.Places.{at-same, field-at}
 use Rattle.storage.proofs.Payloads as Payloads

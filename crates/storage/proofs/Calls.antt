@@ -18,12 +18,13 @@ use Rattle.format.specs.Rows.{rowAt, rowsIn, rowOf, rowWords}
 use Rattle.format.specs.Indexes.{inRange, numberIn}
 use Rattle.format.specs.Storage.{Slot, memberRow, dimensionsOf, storage}
 use Rattle.format.specs.Addresses.{Region, isPacked, isTable, isSchema, along, seek, dimensions, inside, packedSlot, tableSlot}
-use Rattle.storage.specs.Places.{At, here, under, later, Field, Filled}
+use Rattle.laws.specs.Places.{At, here, under, later}
+use Rattle.storage.specs.Places.{Field, Filled}
 use Rattle.storage.specs.Addresses.{regionOf, Below}
 use Rattle.storage.specs.Formulas.{formulaOf}
 use Rattle.storage.proofs.Places.{Rowed, at-size, at-below, field-row, field-at, field-same, filled-rows, filled-enough}
 use Rattle.storage.proofs.Numbering.{below-range, below-case, not-in-range}
-use Rattle.storage.proofs.Counts.{order-most}
+use Rattle.laws.proofs.Counts.{order-most}
 use Rattle.storage.proofs.Stored.{IsPacked, IsTable}
 use Rattle.storage.proofs.Walks.{is-a, is-one, along-done, dimensions-done, inside-done}
 use Rattle.storage.proofs.Seek.{NoLeaf, Sought, found, missing, seek-law}

@@ -12,10 +12,11 @@ use Rattle.format.specs.Marks.{Opening, bracket, brace, width}
 use Rattle.format.specs.Tokens.{Token, key as keyKind, leaf as leafKind, isKind, Forest, none, node, size}
 use Rattle.format.specs.Records.{memberWidth, totalWidth}
 use Rattle.format.specs.Storage.{Slot, endToEnd, elements, leaves, byRows, byColumns, records}
+use Rattle.laws.specs.Places.{At, here, under, later}
 use Rattle.laws.proofs.Schemas.{groupKind}
 use Rattle.laws.proofs.Order.{leaf-kind, group-kind}
 use Rattle.laws.proofs.Slots.{member-width}
-use Rattle.storage.specs.Places.{At, here, under, later, Field, own, next}
+use Rattle.storage.specs.Places.{Field, own, next}
 use Rattle.storage.specs.Tiles.{Tiles, noSlot, slot}
 use Rattle.storage.specs.Formulas.{inRecord, inColumn, formulaOf}
 use Rattle.storage.proofs.KindNumbers.{key-no-leaf, group-no-leaf}

@@ -4,7 +4,6 @@ pub mod Payloads
 pub mod Numbering
 pub mod Offsets
 pub mod Cuts
-pub mod Counts
 pub mod Stored
 pub mod Walks
 pub mod Seek

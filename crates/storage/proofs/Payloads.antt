@@ -5,10 +5,8 @@ use mathlib.Core.Bool.{true, false}
 use mathlib.Core.Logic.{_⊎_, inl, inr}
 use native.Mathlib.Omega.{arith}
 use Rattle.format.specs.Tokens.{Token, Kind, isKind, Forest}
+use Rattle.laws.specs.Places.{At, here, under, later, IsCut, Apart}
 use Rattle.laws.proofs.Order.{isCut, isOffset, Room, InOrder, stop, step, order-size}
-use Rattle.storage.specs.Places.{At, here, under, later}
-use Rattle.storage.specs.Addresses.{IsCut}
-use Rattle.storage.specs.Tiles.{Apart}
 
 pub cut-is : (k : Kind) → IsCut k → (isCut k ≡ true) × (isOffset k ≡ false)
 unfolding isCut isOffset isKind

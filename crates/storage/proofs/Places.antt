@@ -8,8 +8,9 @@ use lib.ListN.{length, length-append}
 use Rattle.format.specs.Tokens.{Token, Forest, none, node, size}
 use Rattle.format.specs.Rows.{Row, rowAt, rowWords, rowOf, rows, wordsOf, allRows, allWords, zeros}
 use Rattle.format.proofs.RowWords.{length-words, row-there, row-past, zero-kind}
+use Rattle.laws.specs.Places.{At, here, under, later}
 use Rattle.laws.proofs.Rows.{length-rows}
-use Rattle.storage.specs.Places.{At, here, under, later, Field, own, next, Filled}
+use Rattle.storage.specs.Places.{Field, own, next, Filled}
 
 -- ---- rows
 

@@ -17,8 +17,9 @@ use Rattle.format.specs.Marks.{Opening, bracket, brace, opens, isLeaf, 'S'}
 use Rattle.format.specs.Tokens.{Token, key as keyKind, leaf as leafKind, schemaRecord, plainCount, Forest, none, node, size}
 use Rattle.format.specs.Rows.{Row, rowAt, rowOf}
 use Rattle.format.specs.Addresses.{isA, isKey, isLeafRow, isSchema, isFixed, isMember, along, seek}
+use Rattle.laws.specs.Places.{At, here, under, later}
 use Rattle.laws.proofs.Schemas.{Is, groupKind, keyed, Members, noMore, key, leaf, group}
-use Rattle.storage.specs.Places.{At, here, under, later, Field, own, next}
+use Rattle.storage.specs.Places.{Field, own, next}
 use Rattle.storage.proofs.KindNumbers.{key-no-leaf, group-no-leaf}
 use Rattle.storage.proofs.Places.{Rowed, at-size, no-at, field-at}
 use Rattle.storage.proofs.Walks.{is-one, isnt-a, along-done, along-over}

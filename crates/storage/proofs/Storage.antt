@@ -14,12 +14,13 @@ use Rattle.format.specs.Tokens.{Token, packed as packedKind, table as tableKind
 use Rattle.format.specs.Records.{totalWidth}
 use Rattle.format.specs.Indexes.{product, indexes, numberIn}
 use Rattle.format.specs.Storage.{Slot, memberRow, elements, records, layoutOf, slotsOf, dimensionsOf, storage}
-use Rattle.storage.specs.Places.{At, Field}
+use Rattle.laws.specs.Places.{At, Apart}
+use Rattle.storage.specs.Places.{Field}
 use Rattle.storage.specs.Addresses.{Address, inPacked, inTable, addressOf, Below}
 use Rattle.storage.specs.Formulas.{formulaOf}
-use Rattle.storage.specs.Tiles.{Tiles, noSlot, slot, Apart}
+use Rattle.storage.specs.Tiles.{Tiles, noSlot, slot}
 use Rattle.storage.proofs.Numbering.{Numbered, indexes-numbered, in-indexes, of-indexes}
-use Rattle.storage.proofs.Counts.{Shaped, plain, vector}
+use Rattle.laws.proofs.Counts.{Shaped, plain, vector}
 use Rattle.storage.proofs.Stored.{IsPacked, IsTable, Stored, packedArray, recordTable}
 use Rattle.storage.proofs.Cuts.{tiles-at, leafSlot, elementSlot, elements-tile, in-elements, of-elements, TableSlot, records-tile, in-records, of-records}
 

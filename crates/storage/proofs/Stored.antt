@@ -14,15 +14,14 @@ use Rattle.format.specs.Scalars as Scalars
 use Rattle.format.specs.Dimensions as Dimensions
 use Rattle.format.specs.Containers as Containers
 use Rattle.format.specs.Read as Read
+use Rattle.laws.specs.Places.{At, here, under, later, IsCut}
 use Rattle.laws.proofs.Holds.{Holds, holds, bind-law, then-law, if-law, seq-law, other, guard-law, any-law, weaken}
 use Rattle.laws.proofs.Order.{isCut, OfSchema, leaf-kind, group-kind}
 use Rattle.laws.proofs.Schemas.{Is, groupKind, Group, grouped, Members, noMore, key, leaf, group, Gives, tableSchema-gives}
 use Rattle.laws.proofs.Slots.{member-width}
-use Rattle.storage.specs.Places.{At, here, under, later}
-use Rattle.storage.specs.Addresses.{IsCut}
 use Rattle.storage.proofs.Payloads.{cut-is}
 use Rattle.storage.proofs.Offsets.{Placed, width-placed, is-placed, member-placed, members-placed, offsets-placed}
-use Rattle.storage.proofs.Counts.{Dimensioned, noDimension, oneDimension, Shaped, plain, vector, shape-gives}
+use Rattle.laws.proofs.Counts.{Dimensioned, noDimension, oneDimension, Shaped, plain, vector, shape-gives}
 
 -- a packed array, with its dimensions
 pub record IsPacked (t : Token) (dimensions : Forest) : Type 0 where

@@ -18,11 +18,12 @@ use Rattle.format.specs.Rows.{Row, rowAt, rowsIn, rowOf}
 use Rattle.format.specs.Storage.{Slot, memberRow, dimensionsOf, storage}
 use Rattle.format.specs.Addresses.{Region, isA, isPacked, isTable, along, packedSlot, tableSlot}
 use Rattle.format.specs.Read.{read}
+use Rattle.laws.specs.Places.{At, IsCut}
 use Rattle.laws.proofs.Holds.{of-done}
 use Rattle.laws.proofs.Order.{InOrder}
 use Rattle.laws.proofs.Bounds.{read-bounded}
-use Rattle.storage.specs.Places.{At, Filled}
-use Rattle.storage.specs.Addresses.{Address, inPacked, inTable, indexesOf, call, addressOf, regionOf, IsCut, Names, packedRow, tableLeaf, Below, InRange, inRange}
+use Rattle.storage.specs.Places.{Filled}
+use Rattle.storage.specs.Addresses.{Address, inPacked, inTable, indexesOf, call, addressOf, regionOf, Names, packedRow, tableLeaf, Below, InRange, inRange}
 use Rattle.storage.specs.Verdicts.{Verdict, wrongRows, wrongIndexes, answered}
 use Rattle.storage.proofs.KindNumbers.{same-number}
 use Rattle.storage.proofs.Places.{at-size, at-exists, at-same, field-at, filled-rows, filled-after}

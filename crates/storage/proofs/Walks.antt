@@ -16,11 +16,11 @@ use Rattle.format.specs.Tokens.{Token, Kind, kindNumber, dimension as dimension
 use Rattle.format.specs.Rows.{Row, rowAt, rowOf}
 use Rattle.format.specs.Bytes.{within}
 use Rattle.format.specs.Addresses.{Region, isA, isDimension, along, dimensionsFrom, dimensions, inside}
+use Rattle.laws.specs.Places.{At, here, under, later}
 use Rattle.laws.proofs.Schemas.{Is}
-use Rattle.storage.specs.Places.{At, here, under, later}
 use Rattle.storage.proofs.KindNumbers.{same-number}
 use Rattle.storage.proofs.Places.{Rowed}
-use Rattle.storage.proofs.Counts.{Dimensioned, noDimension, oneDimension, Vector, counts-length, Shaped, plain, vector}
+use Rattle.laws.proofs.Counts.{Dimensioned, noDimension, oneDimension, Vector, counts-length, Shaped, plain, vector}
 
 -- ---- what a row on the way must be
 

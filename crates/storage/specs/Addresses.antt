@@ -2,13 +2,12 @@
 use Prim.Native.Nat.{ℕ, _+_, _<_}
 use mathlib.Core.Path.{_≡_}
 use mathlib.Core.List.{List, [], _∷_}
-use mathlib.Core.Logic.{_⊎_}
 use Rattle.format.specs.Conditions.{if_then_else_}
 use Rattle.format.specs.Outcome.{Outcome}
-use Rattle.format.specs.Tokens.{Kind, Token, packed, table, leaf, isKind, Forest, belowFirst}
+use Rattle.format.specs.Tokens.{Token, packed, table, leaf, isKind, Forest, belowFirst}
 use Rattle.format.specs.Storage.{Slot, memberRow, dimensionsOf}
 use Rattle.format.specs.Addresses.{Region, packedSlot, tableSlot}
-use Rattle.storage.specs.Places.{At}
+use Rattle.laws.specs.Places.{At}
 
 -- a slot is named by a packed row and indexes, or a table row, a leaf row and indexes
 pub data Address : Type 0 where
@@ -30,10 +29,6 @@ addressOf row t s = if isKind packed (t .kind) then inPacked row (s .element) el
 
 unfoldable pub regionOf : Token → Slot (List ℕ) → Region
 regionOf t s = record { mark = s .mark; first = t .payload + s .offset; wide = s .wide }
-
--- the kinds whose payload is cut into slots: 7 and 8
-abbrev pub IsCut : Kind → Type 0
-IsCut kind = (kind ≡ packed) ⊎ (kind ≡ table)
 
 -- an address names a packed row, or a table row and a leaf of its schema: that row, its token, and those below it
 pub data Names (f : Forest) : Address → ℕ → Token → Forest → Type 0 where

@@ -1,15 +1,10 @@
--- Where the tokens of a forest stand: their rows.
+-- The fields of a schema, and the words that hold the rows of a forest.
 use Prim.Native.Nat.{ℕ, suc, _+_}
 use mathlib.Core.Path.{_≡_}
 use mathlib.Core.List.{List, _++_}
 use Rattle.format.specs.Tokens.{Token, Forest, node, none, size}
 use Rattle.format.specs.Rows.{allWords, zeros}
-
--- the token at row k of a forest whose first is at row n, and what stands under it
-pub data At : ℕ → Forest → ℕ → Token → Forest → Type 0 where
-  here : {n : ℕ} {t : Token} {below after : Forest} → At n (node t below after) n t below
-  under : {n k : ℕ} {t u : Token} {below after v : Forest} → At (suc n) below k u v → At n (node t below after) k u v
-  later : {n k : ℕ} {t u : Token} {below after v : Forest} → At (suc n + size below) after k u v → At n (node t below after) k u v
+use Rattle.laws.specs.Places.{At}
 
 -- the top-level field of a schema, at row k, that is the leaf at a row or holds it. The schema's first member is at row n
 pub data Field : ℕ → Forest → ℕ → Token → ℕ → Token → Type 0 where

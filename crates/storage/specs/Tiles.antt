@@ -2,11 +2,11 @@
 use Prim.Native.Nat.{ℕ, _+_, _≤_, _<_}
 use mathlib.Core.Path.{_≡_}
 use mathlib.Core.List.{List, [], _∷_}
-use mathlib.Core.Logic.{_⊎_}
 use Rattle.format.specs.Outcome.{Outcome, done}
 use Rattle.format.specs.Tokens.{Forest}
 use Rattle.format.specs.Storage.{Slot}
 use Rattle.format.specs.Addresses.{Region}
+use Rattle.laws.specs.Places.{Apart}
 use Rattle.storage.specs.Addresses.{Address, InRange}
 
 -- slots from one offset to another, each where the one before ends
@@ -14,10 +14,7 @@ pub data Tiles {A : Type 0} (end : ℕ) : ℕ → List (Slot A) → Type 0 where
   noSlot : {from : ℕ} → from ≡ end → Tiles end from []
   slot : {from : ℕ} {s : Slot A} {ss : List (Slot A)} → s .offset ≡ from → Tiles end (from + s .wide) ss → Tiles end from (s ∷ ss)
 
--- n bytes from one place and k bytes from another share none: one part ends where the other starts, or before
-abbrev pub Apart : ℕ → ℕ → ℕ → ℕ → Type 0
-Apart a n b k = (a + n ≤ b) ⊎ (b + k ≤ a)
-
+-- two regions share no byte
 abbrev pub RegionsApart : Region → Region → Type 0
 RegionsApart r q = Apart (r .first) (r .wide) (q .first) (q .wide)
 

@@ -1,12 +1,11 @@
 -- The counts that reading gives: a plain count, or one to eight dimensions and their product. Assumes nothing.
 use Prim.Native.Nat.{ℕ, zero, suc, _+_, _≤_}
 use mathlib.Core.Path.{_≡_, refl}
-use mathlib.Core.Bool.{Bool, true, false, not, _&&_, and-true, false≢true}
-use mathlib.Core.List.{List, [], _∷_}
+use mathlib.Core.Bool.{Bool, true, false, _&&_, false≢true}
+use mathlib.Core.List.{List}
 use native.Mathlib.Omega.{arith}
-use native.Mathlib.Nat.{mul-one}
 use lib.ListN.{length}
-use lib.Dec.{leb, eqb, lit≤}
+use lib.Dec.{leb, eqb}
 use borrow.Author.Tests.{leb-true}
 use Rattle.format.specs.Conditions.{between}
 use Rattle.format.specs.Limits.{dimensionLimit}
@@ -15,10 +14,10 @@ use Rattle.format.specs.Tokens.{dimension as dimensionKind, plainCount, firstSl
 use Rattle.format.specs.Indexes.{product}
 use Rattle.format.specs.Sequences.{Reader, _⨾_, repeat}
 use Rattle.format.specs.Dimensions as Dimensions
-use Rattle.laws.proofs.Holds.{Holds, holds, bind-law, then-law, if-law, seq-law, other, guard-law, any-law, weaken, relax}
+use Rattle.laws.proofs.Holds.{Holds, holds, bind-law, then-law, if-law, seq-law, other, guard-law, any-law, weaken}
 use Rattle.laws.proofs.Order.{size-append}
 use Rattle.laws.proofs.Schemas.{Is, Gives}
 use Rattle.laws.proofs.Bounds.{oneOf-law}
 
 -- dimensions side by side
 pub data Dimensioned : Forest → Type 0 where
