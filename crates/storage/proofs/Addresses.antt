@@ -8,22 +8,26 @@ use native.Mathlib.Omega.{arith}
 use lib.ListN.{length}
 use Rattle.format.specs.Outcome.{Outcome, fault, done}
 use Rattle.format.specs.Refusals.{notThere, rowsDontFit}
-use Rattle.format.specs.Marks.{Opening, bracket, brace, opens, width}
+use Rattle.format.specs.Marks.{Opening, bracket, brace, opens, '[', left-brace}
 use Rattle.format.specs.Tokens.{Token, packed, table, Forest, node, belowFirst}
 use Rattle.format.specs.Indexes.{numberIn}
 use Rattle.format.specs.Storage.{Slot, memberRow, dimensionsOf, storage}
 use Rattle.format.specs.Addresses.{Region}
 use Rattle.format.specs.Read.{read}
 use Rattle.laws.specs.Places.{At, IsCut, Apart}
+use Rattle.laws.specs.Tiles.{Tiles}
 use Rattle.storage.specs.Places.{Field, Filled}
 use Rattle.storage.specs.Addresses.{Address, inPacked, inTable, indexesOf, call, addressOf, regionOf, Names, packedRow, tableLeaf, Below, InRange, inRange}
-use Rattle.storage.specs.Formulas.{inRecord, inColumn}
-use Rattle.storage.specs.Tiles.{Tiles, RegionsApart, InOne}
+use Rattle.storage.specs.Formulas.{inArray, inRow, inColumn}
+use Rattle.storage.specs.Regions.{RegionsApart, InOne}
 use Rattle.storage.specs.Verdicts.{Verdict, wrongRows, wrongIndexes, answered}
 use Rattle.storage.proofs.Places.{at-same, field-at}
 use Rattle.storage.proofs.Payloads as Payloads
+use Rattle.storage.proofs.Tiling.{tile-inside, tiles-hold, tiles-apart}
 use Rattle.storage.proofs.Stored.{IsPacked, IsTable, Stored, packedArray, recordTable, at-stored}
-use Rattle.storage.proofs.Storage.{packed-address, of-packed, table-address, of-table, stored-tiles, tiles-inside, tiles-hold, tiles-apart}
+use Rattle.storage.proofs.Leaves.{leafSlot}
+use Rattle.storage.proofs.Cuts.{formulaOf}
+use Rattle.storage.proofs.Storage.{slot-at, packed-address, of-packed, table-address, of-table, stored-tiles}
 use Rattle.storage.proofs.Calls.{packed-answer, leaf-answer}
 use Rattle.storage.proofs.Verdicts as Verdicts
 
@@ -52,7 +56,53 @@ module _ (m : List ℕ) (rowsLent : ℕ) (f : Forest) (accepted : read m rowsLen
   pub slot-in-payload : {row : ℕ} {t : Token} {below : Forest} {s : Slot (List ℕ)} → At 0 f row t below → IsCut (t .kind) → List·Memᴰ s (storage row t below)
       → (t .payload ≤ regionOf t s .first) × (regionOf t s .first + regionOf t s .wide ≤ t .payload + t .extent)
   unfolding regionOf
-  slot-in-payload x c i = let h = tiles-inside (slots-tile x c) i in (omega arith, omega arith)
+  slot-in-payload x c i = let h = tile-inside (slots-tile x c) i in (omega arith, omega arith)
+
+  -- ---- the formulas
+
+  -- An element stands where the formula says.
+  pub packed-formula : {row : ℕ} {t : Token} {below : Forest} {s : Slot (List ℕ)} → At 0 f row t below → t .kind ≡ packed → List·Memᴰ s (storage row t below)
+      → regionOf t s ≡ inArray t (numberIn (t .order) (dimensionsOf t below) (s .element))
+  unfolding regionOf inArray
+  packed-formula {row} {t} {below} x k i = ap (regionOf t) (of-packed row t below (Verdicts.as-packed (is-stored x (inl k)) k) i .1)
+
+  module _ {row fieldRow : ℕ} {t schema field l : Token} {members dims : Forest} {s : Slot (List ℕ)} (x : At 0 f row t (node schema members dims)) (k : t .kind ≡ table)
+      (i : List·Memᴰ s (storage row t (node schema members dims))) (y : Field (memberRow row) members fieldRow field (s .leafRow) l) where
+    -- the number of its record
+    abbrev numbered : ℕ
+    numbered = numberIn (t .order) (dimensionsOf t (node schema members dims)) (s .element)
+
+    the-table : IsTable t schema members dims
+    the-table = Verdicts.the-table (Verdicts.as-table (is-stored x (inr k)) k)
+
+    by-layout : (o : Opening) → t .mark ≡ opens o → (the-table .opening ≡ o)
+    unfolding opens
+    by-layout o e = go o (the-table .opening) (sym (the-table .mark-is) ∙ e)
+      where
+        go : (o p : Opening) → opens p ≡ opens o → p ≡ o
+        go bracket bracket e = refl
+        go bracket brace e = absurd (omega arith)
+        go brace bracket e = absurd (omega arith)
+        go brace brace e = refl
+
+    region-is : (o : Opening) → t .mark ≡ opens o → regionOf t s ≡ regionOf t (leafSlot (s .leafRow) l (s .element) (formulaOf o (t .count) (schema .extent) field l numbered))
+    region-is o e = ap (regionOf t) (slot-at row t schema members dims the-table i y)
+        ∙ ap (λ p. regionOf t (leafSlot (s .leafRow) l (s .element) (formulaOf p (t .count) (schema .extent) field l numbered))) (by-layout o e)
+
+    -- So does a leaf of a table by rows, in the record that the indexes number.
+    pub rows-formula : t .mark ≡ '[' → regionOf t s ≡ inRow t schema l numbered
+    unfolding regionOf inRow opens
+    rows-formula e =
+        let a : t .payload + (numbered * schema .extent + l .payload) ≡ t .payload + numbered * schema .extent + l .payload = omega arith in
+        region-is bracket e ∙ ap (λ z. record { mark = l .mark; first = z; wide = l .extent }) a
+
+    -- And one of a table by columns, in its top-level field.
+    pub columns-formula : t .mark ≡ left-brace → regionOf t s ≡ inColumn t field l numbered
+    unfolding regionOf inColumn opens
+    columns-formula e =
+        let a : t .payload + (t .count * field .payload + numbered * field .extent + (l .payload - field .payload))
+        ≡ t .payload + t .count * field .payload + numbered * field .extent + (l .payload - field .payload) = omega arith in
+        region-is brace e ∙ ap (λ z. record { mark = l .mark; first = z; wide = l .extent }) a
 
   -- two slots of one row
   row-apart : {row : ℕ} {t : Token} {below : Forest} {s s′ : Slot (List ℕ)} → At 0 f row t below → IsCut (t .kind)

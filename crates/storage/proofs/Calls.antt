@@ -21,15 +21,16 @@ use Rattle.format.specs.Addresses.{Region, isPacked, isTable, isSchema, along, 
 use Rattle.laws.specs.Places.{At, here, under, later}
 use Rattle.storage.specs.Places.{Field, Filled}
 use Rattle.storage.specs.Addresses.{regionOf, Below}
-use Rattle.storage.specs.Formulas.{formulaOf}
 use Rattle.storage.proofs.Places.{Rowed, at-size, at-below, field-row, field-at, field-same, filled-rows, filled-enough}
 use Rattle.storage.proofs.Numbering.{below-range, below-case, not-in-range}
 use Rattle.laws.proofs.Counts.{order-most}
+use Rattle.storage.proofs.Tiling.{tile-inside}
 use Rattle.storage.proofs.Stored.{IsPacked, IsTable}
 use Rattle.storage.proofs.Walks.{is-a, is-one, along-done, dimensions-done, inside-done}
 use Rattle.storage.proofs.Seek.{NoLeaf, Sought, found, missing, seek-law}
-use Rattle.storage.proofs.Cuts.{field-from}
-use Rattle.storage.proofs.Storage.{packed-dimensions, packed-tiles, elementAt, in-packed, table-dimensions, table-tiles, leafAt, in-table, tiles-inside}
+use Rattle.storage.proofs.Leaves.{field-from}
+use Rattle.storage.proofs.Cuts.{formulaOf}
+use Rattle.storage.proofs.Storage.{packed-dimensions, packed-tiles, elementAt, in-packed, table-dimensions, table-tiles, leafAt, in-table}
 
 module _ (f : Forest) (ws : List ℕ) (filled : Filled f ws) (messageBytes : ℕ) where
   rowed : Rowed ws 0 f
@@ -69,7 +70,7 @@ module _ (f : Forest) (ws : List ℕ) (filled : Filled f ws) (messageBytes : ℕ
     pub packed-answer : (is : List ℕ) → Below is (dimensionsOf t below) → packedSlot ws messageBytes k is ≡ done (regionOf t (elementAt k t below ok is))
     unfolding guard _>>_ regionOf
     packed-answer is h =
-        let i = tiles-inside (packed-tiles k t below ok) (in-packed k t below ok h) in
+        let i = tile-inside (packed-tiles k t below ok) (in-packed k t below ok h) in
         packed-call is ∙ rw (below-range h) (inside-done ws messageBytes (t .mark) _ 0 (width (t .mark)) _ (omega arith) (omega arith))
 
     pub packed-refusal : (is : List ℕ) → (Below is (dimensionsOf t below) → ⊥) → packedSlot ws messageBytes k is ≡ fault notThere 0
@@ -166,7 +167,7 @@ module _ (f : Forest) (ws : List ℕ) (filled : Filled f ws) (messageBytes : ℕ
     unfolding guard _>>_ regionOf
     table-found {leafRow = leafRow} {field = field} {l = l} is x kind e = elim (below-case (dimensionsOf t (node s members dims)) is) [
       | inl h ↦ (
-          let i = tiles-inside (table-tiles k t s members dims ok) (in-table k t s members dims ok x kind h) in
+          let i = tile-inside (table-tiles k t s members dims ok) (in-table k t s members dims ok x kind h) in
           let d = answer-done (ok .opening) (ok .mark-is) field l (numberIn (t .order) (dimensionsOf t (node s members dims)) is) (field-from (ok .offsets) x kind) (omega arith) in
           subst (TableAnswer leafRow is) (sym (e ∙ rw (below-range h) d)) (aLeaf x kind h))
       | inr c ↦ subst (TableAnswer leafRow is) (sym (e ∙ rw (not-in-range (dimensionsOf t (node s members dims)) is c))) (noIndexes x kind c)

@@ -3,6 +3,9 @@ pub mod Places
 pub mod Payloads
 pub mod Numbering
 pub mod Offsets
+pub mod Tiling
+pub mod Ends
+pub mod Leaves
 pub mod Cuts
 pub mod Stored
 pub mod Walks

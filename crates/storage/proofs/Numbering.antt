@@ -130,9 +130,12 @@ module _ {A : Type 0} {number : A → ℕ} where
   numbered-append (step h a) b = step h (numbered-append a b)
 
   -- as many as there are numbers
-  pub numbered-length : {k end : ℕ} {l : List A} → Numbered number end k l → k + length l ≡ end
-  numbered-length (stop h) = omega arith
-  numbered-length (step h r) = let x = numbered-length r in omega arith
+  numbered-from : {k end : ℕ} {l : List A} → Numbered number end k l → k + length l ≡ end
+  numbered-from (stop h) = omega arith
+  numbered-from (step h r) = let x = numbered-from r in omega arith
+
+  pub numbered-length : {end : ℕ} {l : List A} → Numbered number end 0 l → length l ≡ end
+  numbered-length n = let x = numbered-from n in omega arith
 
 numbered-count : (k n : ℕ) → Numbered (λ i. i) (k + n) k (countFrom k n)
 unfolding countFrom

@@ -1,21 +1,15 @@
 -- The payloads that are cut into slots lie inside the message, and those of different rows lie apart. Assumes nothing.
 use Prim.Native.Nat.{ℕ, _+_, _≤_}
 use mathlib.Core.Path.{_≡_, refl}
-use mathlib.Core.Bool.{true, false}
 use mathlib.Core.Logic.{_⊎_, inl, inr}
 use native.Mathlib.Omega.{arith}
-use Rattle.format.specs.Tokens.{Token, Kind, isKind, Forest}
+use Rattle.format.specs.Tokens.{Token, Forest}
 use Rattle.laws.specs.Places.{At, here, under, later, IsCut, Apart}
-use Rattle.laws.proofs.Order.{isCut, isOffset, Room, InOrder, stop, step, order-size}
-
-pub cut-is : (k : Kind) → IsCut k → (isCut k ≡ true) × (isOffset k ≡ false)
-unfolding isCut isOffset isKind
-cut-is k (inl e) = rw e (refl, refl)
-cut-is k (inr e) = rw e (refl, refl)
+use Rattle.laws.proofs.Order.{cut-kind, Room, InOrder, step, order-size}
 
 -- after the tokens below it, and up to its end
 room-of : {t : Token} {mid end : ℕ} → Room t mid end → IsCut (t .kind) → (mid ≤ t .payload) × (t .payload + t .extent ≤ end)
-room-of {t} r c = let i = cut-is (t .kind) c in (r .cut (i .0), r .inside (i .1) .1)
+room-of {t} r c = let i = cut-kind (t .kind) c in (r .cut (i .0), r .inside (i .1) .1)
 
 pub payload-inside : {n k low high : ℕ} {t : Token} {f v : Forest} → InOrder low high f → At n f k t v → IsCut (t .kind)
     → (low ≤ t .payload) × (t .payload + t .extent ≤ high)

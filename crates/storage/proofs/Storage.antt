@@ -3,9 +3,7 @@ use Prim.Native.Nat.{ℕ, _+_, _*_, _≤_, _<_}
 use mathlib.Core.Path.{_≡_, refl, sym, subst, ap, _∙_}
 use mathlib.Core.Bool.{Bool, true, false}
 use mathlib.Core.List.{List, [], _∷_, List·Memᴰ, List·Memᴰ·head, List·Memᴰ·tail}
-use mathlib.Core.Logic.{_⊎_, inl, inr}
 use native.Mathlib.Omega.{arith}
-use native.Mathlib.Decide.{decLt}
 use native.Mathlib.Nat.{mul-one}
 use lib.Dec.{eqb}
 use Rattle.format.specs.Conditions.{if_then_else_}
@@ -15,14 +13,16 @@ use Rattle.format.specs.Records.{totalWidth}
 use Rattle.format.specs.Indexes.{product, indexes, numberIn}
 use Rattle.format.specs.Storage.{Slot, memberRow, elements, records, layoutOf, slotsOf, dimensionsOf, storage}
 use Rattle.laws.specs.Places.{At, Apart}
+use Rattle.laws.specs.Tiles.{Tiles}
+use Rattle.laws.proofs.Slots.{tiles-at, elements-tile, records-tile, members-measured}
 use Rattle.storage.specs.Places.{Field}
 use Rattle.storage.specs.Addresses.{Address, inPacked, inTable, addressOf, Below}
-use Rattle.storage.specs.Formulas.{formulaOf}
-use Rattle.storage.specs.Tiles.{Tiles, noSlot, slot}
-use Rattle.storage.proofs.Numbering.{Numbered, indexes-numbered, in-indexes, of-indexes}
+use Rattle.storage.proofs.Places.{field-same}
+use Rattle.storage.proofs.Numbering.{Numbered, numbered-length, indexes-numbered, in-indexes, of-indexes}
 use Rattle.laws.proofs.Counts.{Shaped, plain, vector}
 use Rattle.storage.proofs.Stored.{IsPacked, IsTable, Stored, packedArray, recordTable}
-use Rattle.storage.proofs.Cuts.{tiles-at, leafSlot, elementSlot, elements-tile, in-elements, of-elements, TableSlot, records-tile, in-records, of-records}
+use Rattle.storage.proofs.Leaves.{leafSlot, elementSlot}
+use Rattle.storage.proofs.Cuts.{formulaOf, in-elements, of-elements, in-records, of-records}
 
 -- as many elements or records as the count says
 counted : {highest order n : ℕ} {f : Forest} → Shaped highest order n f → product (if eqb order plainCount then n ∷ [] else counts f) ≡ n
@@ -53,7 +53,7 @@ module _ (row : ℕ) (t : Token) (below : Forest) (ok : IsPacked t below) where
   packed-address s = rw (ok .kind-is)
 
   pub packed-tiles : Tiles (t .extent) 0 (storage row t below)
-  packed-tiles = rw packed-storage (tiles-at 0 _ refl (sym (ok .extent-is)) (elements-tile packed-numbered row (t .mark)))
+  packed-tiles = rw packed-storage (tiles-at 0 _ refl (ap (λ n. n * width (t .mark)) (numbered-length packed-numbered) ∙ sym (ok .extent-is)) (elements-tile row (t .mark) _))
 
   -- the element with these indexes
   abbrev pub elementAt : List ℕ → Slot (List ℕ)
@@ -91,7 +91,8 @@ module _ (row : ℕ) (t s : Token) (members dims : Forest) (ok : IsTable t s mem
   table-address x = rw (ok .kind-is)
 
   pub table-tiles : Tiles (t .extent) 0 (storage row t (node s members dims))
-  table-tiles = rw table-storage (tiles-at 0 _ refl (ap (λ w. t .count * w) (sym (ok .width-is)) ∙ sym (ok .extent-is)) (records-tile table-numbered (memberRow row) (ok .offsets) (ok .opening)))
+  table-tiles = rw table-storage (tiles-at 0 _ refl (ap (λ n. n * totalWidth members) (numbered-length table-numbered) ∙ ap (λ w. t .count * w) (sym (ok .width-is)) ∙ sym (ok .extent-is))
+      (records-tile (ok .opening) (memberRow row) (members-measured (ok .keyed)) _))
 
   -- the slot of a leaf, in its field, and of the record with these indexes; records have so many bytes
   abbrev leafOf : ℕ → ℕ → Token → Token → List ℕ → Slot (List ℕ)
@@ -130,46 +131,16 @@ module _ (row : ℕ) (t s : Token) (members dims : Forest) (ok : IsTable t s mem
         slot-is = y .slot-is ∙ ap (λ w. leafOf w (x .leafRow) (y .field) (y .token) (x .element)) (sym (ok .width-is));
       }
 
+  -- so a slot is that of its leaf, in its leaf's field
+  pub slot-at : {x : Slot (List ℕ)} {fieldRow : ℕ} {field l : Token} → List·Memᴰ x (storage row t (node s members dims)) → Field (memberRow row) members fieldRow field (x .leafRow) l
+      → x ≡ leafAt (x .leafRow) field l (x .element)
+  slot-at {x} {field = field} m y =
+      let z = of-table m in
+      let e = field-same (z .found) y in
+      z .slot-is ∙ ap (λ u. leafAt (x .leafRow) u (z .token) (x .element)) (e .0) ∙ ap (λ u. leafAt (x .leafRow) field u (x .element)) (e .1)
+
 -- ---- either
 
 pub stored-tiles : {t : Token} {below : Forest} (row : ℕ) → Stored t below → Tiles (t .extent) 0 (storage row t below)
 stored-tiles {t} {below} row (packedArray ok) = packed-tiles row t below ok
 stored-tiles {t} row (recordTable {s = s} {members = members} {dimensions = dims} ok) = table-tiles row t s members dims ok
-
--- slots that lie end to end lie inside
-pub tiles-end : {A : Type 0} {from end : ℕ} {ss : List (Slot A)} → Tiles end from ss → from ≤ end
-tiles-end (noSlot h) = omega arith
-tiles-end (slot h r) = let x = tiles-end r in omega arith
-
-pub tiles-inside : {A : Type 0} {from end : ℕ} {ss : List (Slot A)} {s : Slot A} → Tiles end from ss → List·Memᴰ s ss → (from ≤ s .offset) × (s .offset + s .wide ≤ end)
-tiles-inside (slot {s = x} h r) (List·Memᴰ·head e) =
-    let y = tiles-end r in
-    let p = ap (λ z. z .offset) e in
-    let q = ap (λ z. z .wide) e in
-    (omega arith, omega arith)
-tiles-inside (slot h r) (List·Memᴰ·tail m) = let x = tiles-inside r m in (omega arith, omega arith)
-
--- a byte in between lies in one of them
-pub tiles-hold : {A : Type 0} {from end : ℕ} {ss : List (Slot A)} (byte : ℕ) → Tiles end from ss → from ≤ byte → byte < end
-    → (s : Slot A) × List·Memᴰ s ss × (s .offset ≤ byte) × (byte < s .offset + s .wide)
-tiles-hold byte (noSlot h) p q = absurd (omega arith)
-tiles-hold {from = from} byte (slot {s = s} h r) p q = elim (decLt byte (from + s .wide)) [
-  | yes k ↦ (s, List·Memᴰ·head refl, omega arith, omega arith)
-  | no k ↦ (let x = tiles-hold byte r (omega arith) q in (x .0, List·Memᴰ·tail (x .1), x .2, x .3))
-]
-
--- two of them are one, or lie apart
-pub tiles-apart : {A : Type 0} {from end : ℕ} {ss : List (Slot A)} {x y : Slot A} → Tiles end from ss → List·Memᴰ x ss → List·Memᴰ y ss
-    → (x ≡ y) ⊎ Apart (x .offset) (x .wide) (y .offset) (y .wide)
-tiles-apart t (List·Memᴰ·head p) (List·Memᴰ·head q) = inl (p ∙ sym q)
-tiles-apart (slot {s = s} h r) (List·Memᴰ·head p) (List·Memᴰ·tail q) =
-    let i = tiles-inside r q in
-    let a = ap (λ z. z .offset) p in
-    let b = ap (λ z. z .wide) p in
-    inr (inl (omega arith))
-tiles-apart (slot {s = s} h r) (List·Memᴰ·tail p) (List·Memᴰ·head q) =
-    let i = tiles-inside r p in
-    let a = ap (λ z. z .offset) q in
-    let b = ap (λ z. z .wide) q in
-    inr (inr (omega arith))
-tiles-apart (slot h r) (List·Memᴰ·tail p) (List·Memᴰ·tail q) = tiles-apart r p q

@@ -16,10 +16,9 @@ use Rattle.format.specs.Containers as Containers
 use Rattle.format.specs.Read as Read
 use Rattle.laws.specs.Places.{At, here, under, later, IsCut}
 use Rattle.laws.proofs.Holds.{Holds, holds, bind-law, then-law, if-law, seq-law, other, guard-law, any-law, weaken}
-use Rattle.laws.proofs.Order.{isCut, OfSchema, leaf-kind, group-kind}
+use Rattle.laws.proofs.Order.{isCut, cut-kind, OfSchema, leaf-kind, group-kind}
 use Rattle.laws.proofs.Schemas.{Is, groupKind, Group, grouped, Members, noMore, key, leaf, group, Gives, tableSchema-gives}
 use Rattle.laws.proofs.Slots.{member-width}
-use Rattle.storage.proofs.Payloads.{cut-is}
 use Rattle.storage.proofs.Offsets.{Placed, width-placed, is-placed, member-placed, members-placed, offsets-placed}
 use Rattle.laws.proofs.Counts.{Dimensioned, noDimension, oneDimension, Shaped, plain, vector, shape-gives}
 
@@ -61,7 +60,7 @@ at-stored (token s u a) (later x) c = at-stored a x c
 
 -- a token of another kind
 uncut : {t : Token} {below : Forest} (k : Kind) → isCut k ≡ false → t .kind ≡ k → IsCut (t .kind) → Stored t below
-uncut {t} k e q c = absurd (false≢true (sym e ∙ ap isCut (sym q) ∙ cut-is (t .kind) c .0))
+uncut {t} k e q c = absurd (false≢true (sym e ∙ ap isCut (sym q) ∙ cut-kind (t .kind) c .0))
 
 lone : {t : Token} → isCut (t .kind) ≡ false → AllStored (alone t)
 lone {t} e = token (uncut (t .kind) e refl) noToken noToken

@@ -52,6 +52,9 @@ as-packed (recordTable ok) e = let k = ok .kind-is in let z : _≡_ {A = ℕ} 0 
 pub data TableOf (t : Token) : Forest → Type 0 where
   tableOf : {s : Token} {members dims : Forest} → IsTable t s members dims → TableOf t (node s members dims)
 
+pub the-table : {t s : Token} {members dims : Forest} → TableOf t (node s members dims) → IsTable t s members dims
+the-table (tableOf ok) = ok
+
 pub as-table : {t : Token} {below : Forest} → Stored t below → t .kind ≡ table → TableOf t below
 as-table (packedArray ok) e = let k = ok .kind-is in let z : _≡_ {A = ℕ} 0 1 = cc in absurd (omega arith)
 as-table (recordTable ok) e = tableOf ok

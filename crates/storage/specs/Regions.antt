@@ -1,18 +1,11 @@
--- Slots and regions side by side: end to end, apart, and the one that holds a byte.
+-- Regions of the message: those that share no byte, and the one that holds a byte.
 use Prim.Native.Nat.{ℕ, _+_, _≤_, _<_}
 use mathlib.Core.Path.{_≡_}
-use mathlib.Core.List.{List, [], _∷_}
 use Rattle.format.specs.Outcome.{Outcome, done}
 use Rattle.format.specs.Tokens.{Forest}
-use Rattle.format.specs.Storage.{Slot}
 use Rattle.format.specs.Addresses.{Region}
 use Rattle.laws.specs.Places.{Apart}
 use Rattle.storage.specs.Addresses.{Address, InRange}
-
--- slots from one offset to another, each where the one before ends
-pub data Tiles {A : Type 0} (end : ℕ) : ℕ → List (Slot A) → Type 0 where
-  noSlot : {from : ℕ} → from ≡ end → Tiles end from []
-  slot : {from : ℕ} {s : Slot A} {ss : List (Slot A)} → s .offset ≡ from → Tiles end (from + s .wide) ss → Tiles end from (s ∷ ss)
 
 -- two regions share no byte
 abbrev pub RegionsApart : Region → Region → Type 0
