@@ -1,6 +1,6 @@
 -- The slots of a payload lie end to end, and so inside it. Assumes nothing.
 use Prim.Native.Nat.{ℕ, zero, suc, _+_, _*_, _≤_}
-use mathlib.Core.Path.{_≡_, refl, sym, ap, _∙_}
+use mathlib.Core.Path.{_≡_, refl, sym, subst₂, ap, _∙_}
 use mathlib.Core.Bool.{Bool, true, false}
 use mathlib.Core.List.{List, [], _∷_, _++_}
 use native.Mathlib.Omega.{arith}
@@ -63,10 +63,7 @@ module _ {A : Type 0} where
   no-slot h = noSlot h
 
   pub tiles-at : {from end : ℕ} {ss : List (Slot A)} (from′ end′ : ℕ) → from ≡ from′ → end ≡ end′ → Tiles end from ss → Tiles end′ from′ ss
-  tiles-at from′ end′ p q (noSlot h) = no-slot (omega arith)
-  tiles-at from′ end′ p q (nextSlot {s = s} h r) =
-      let e : s .offset ≡ from′ = omega arith in
-      nextSlot e (tiles-at (from′ + s .wide) end′ (omega arith) q r)
+  tiles-at {ss = ss} from′ end′ p q t = subst₂ (λ x y. Tiles y x ss) p q t
 
   tiles-append : {from mid end : ℕ} {ss ts : List (Slot A)} → Tiles mid from ss → Tiles end mid ts → Tiles end from (ss ++ ts)
   tiles-append (noSlot h) b = tiles-at _ _ (sym h) refl b

@@ -1,5 +1,5 @@
 -- The address calls at the packed rows and table rows of a message: what they answer, for any leaf and any indexes. Assumes nothing.
-use Prim.Native.Nat.{ℕ, suc, _+_, _-_, _*_, _/_, _≤_}
+use Prim.Native.Nat.{ℕ, suc, _+_, _*_, _≤_}
 use mathlib.Core.Path.{_≡_, refl, sym, subst, ap, _∙_}
 use mathlib.Core.Bool.{true}
 use mathlib.Core.List.{List, [], _∷_}
@@ -8,15 +8,14 @@ use native.Mathlib.Omega.{arith}
 use native.Mathlib.Numerals.{add-one}
 use lib.ListN.{length}
 use lib.Dec.{eqb}
-use borrow.Author.Tests.{eq-eqb, ne-eqb}
 use Rattle.format.specs.Conditions.{if_then_else_, among}
 use Rattle.format.specs.Outcome.{Outcome, fault, done, _>>=_, _>>_, guard}
 use Rattle.format.specs.Refusals.{notThere, rowsDontFit}
 use Rattle.format.specs.Marks.{Opening, bracket, brace, opens, isType, width, '[', left-brace}
-use Rattle.format.specs.Tokens.{Token, packed as packedKind, table as tableKind, leaf as leafKind, firstSlowest, firstFastest, plainCount, Forest, none, node, size}
-use Rattle.format.specs.Rows.{rowAt, rowsIn, rowOf, rowWords}
+use Rattle.format.specs.Tokens.{Token, packed as packedKind, table as tableKind, leaf as leafKind, firstSlowest, firstFastest, plainCount, Forest, node, size}
+use Rattle.format.specs.Rows.{rowAt, rowsIn, rowOf}
 use Rattle.format.specs.Indexes.{inRange, numberIn}
-use Rattle.format.specs.Storage.{Slot, memberRow, dimensionsOf, storage}
+use Rattle.format.specs.Storage.{memberRow, dimensionsOf}
 use Rattle.format.specs.Addresses.{Region, isPacked, isTable, isSchema, along, seek, dimensions, inside, packedSlot, tableSlot}
 use Rattle.laws.specs.Places.{At, here, under, later}
 use Rattle.storage.specs.Places.{Field, Filled}

@@ -5,7 +5,6 @@ use mathlib.Core.List.{List, _++_, List·Memᴰ, List·Memᴰ·head, List·Mem�
 use mathlib.Core.Logic.{inl, inr}
 use native.Mathlib.Omega.{arith}
 use native.Mathlib.Nat.{mul-add}
-use lib.ListN.{length}
 use Rattle.format.specs.Marks.{Opening, bracket, brace, width}
 use Rattle.format.specs.Tokens.{Token, leaf as leafKind, Forest, none, node, size}
 use Rattle.format.specs.Records.{memberWidth, totalWidth}

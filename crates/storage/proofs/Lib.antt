@@ -11,6 +11,7 @@ pub mod Stored
 pub mod Walks
 pub mod Seek
 pub mod Storage
+pub mod MessageSlots
 pub mod Calls
 pub mod Verdicts
 pub mod Addresses

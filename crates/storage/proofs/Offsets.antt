@@ -3,7 +3,7 @@ use Prim.Native.Nat.{ℕ, _+_}
 use mathlib.Core.Path.{_≡_, refl, sym, ap, _∙_}
 use mathlib.Core.Bool.{Bool, true, false}
 use Rattle.format.specs.Conditions.{if_then_else_}
-use Rattle.format.specs.Marks.{Opening, opens}
+use Rattle.format.specs.Marks.{Opening}
 use Rattle.format.specs.Tokens.{Token, Kind, key as keyKind, leaf as leafKind, isKind, Forest, none, node}
 use Rattle.format.specs.Records.{memberWidth, totalWidth, atOffset, placed}
 use Rattle.laws.proofs.Order.{OfSchema, key-kind, leaf-kind, group-kind}

@@ -17,14 +17,14 @@ payload-inside (step h u r a) here c = let i = room-of r c in let x = order-size
 payload-inside (step h u r a) (under x) c = let i = payload-inside u x c in let y = order-size a in let z = r .on in (omega arith, omega arith)
 payload-inside (step h u r a) (later x) c = let i = payload-inside a x c in let y = order-size u in let z = r .on in (omega arith, omega arith)
 
-pub payloads-apart : {n j k low high : ℕ} {t u : Token} {f v w : Forest} → InOrder low high f → At n f j t v → At n f k u w → IsCut (t .kind) → IsCut (u .kind)
+pub cut-apart : {n j k low high : ℕ} {t u : Token} {f v w : Forest} → InOrder low high f → At n f j t v → At n f k u w → IsCut (t .kind) → IsCut (u .kind)
     → (j ≡ k) ⊎ Apart (t .payload) (t .extent) (u .payload) (u .extent)
-payloads-apart o here here c d = inl refl
-payloads-apart (step h u r a) here (under y) c d = let i = room-of r c in let j = payload-inside u y d in inr (inr (omega arith))
-payloads-apart (step h u r a) here (later y) c d = let i = room-of r c in let j = payload-inside a y d in inr (inl (omega arith))
-payloads-apart (step h u r a) (under x) here c d = let i = room-of r d in let j = payload-inside u x c in inr (inl (omega arith))
-payloads-apart (step h u r a) (later x) here c d = let i = room-of r d in let j = payload-inside a x c in inr (inr (omega arith))
-payloads-apart (step h u r a) (under x) (under y) c d = payloads-apart u x y c d
-payloads-apart (step h u r a) (later x) (later y) c d = payloads-apart a x y c d
-payloads-apart (step h u r a) (under x) (later y) c d = let z = r .on in let i = payload-inside u x c in let j = payload-inside a y d in inr (inl (omega arith))
-payloads-apart (step h u r a) (later x) (under y) c d = let z = r .on in let i = payload-inside a x c in let j = payload-inside u y d in inr (inr (omega arith))
+cut-apart o here here c d = inl refl
+cut-apart (step h u r a) here (under y) c d = let i = room-of r c in let j = payload-inside u y d in inr (inr (omega arith))
+cut-apart (step h u r a) here (later y) c d = let i = room-of r c in let j = payload-inside a y d in inr (inl (omega arith))
+cut-apart (step h u r a) (under x) here c d = let i = room-of r d in let j = payload-inside u x c in inr (inl (omega arith))
+cut-apart (step h u r a) (later x) here c d = let i = room-of r d in let j = payload-inside a x c in inr (inr (omega arith))
+cut-apart (step h u r a) (under x) (under y) c d = cut-apart u x y c d
+cut-apart (step h u r a) (later x) (later y) c d = cut-apart a x y c d
+cut-apart (step h u r a) (under x) (later y) c d = let z = r .on in let i = payload-inside u x c in let j = payload-inside a y d in inr (inl (omega arith))
+cut-apart (step h u r a) (later x) (under y) c d = let z = r .on in let i = payload-inside a x c in let j = payload-inside u y d in inr (inr (omega arith))

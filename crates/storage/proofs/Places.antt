@@ -1,12 +1,14 @@
 -- The tokens of a forest by their rows: each row has one, and the words that hold the forest's rows have its row there. Assumes nothing.
-use Prim.Native.Nat.{ℕ, suc, _+_, _*_, _≤_, _<_}
+use Prim.Native.Nat.{ℕ, suc, _+_, _-_, _*_, _≤_, _<_}
 use mathlib.Core.Path.{_≡_, refl, sym, subst, ap, _∙_}
 use mathlib.Core.List.{List, [], _∷_, _++_, append-assoc}
 use native.Mathlib.Omega.{arith}
 use native.Mathlib.Decide.{decLt}
 use lib.ListN.{length, length-append}
+use Rattle.format.specs.Outcome.{done}
 use Rattle.format.specs.Tokens.{Token, Forest, none, node, size}
-use Rattle.format.specs.Rows.{Row, rowAt, rowWords, rowOf, rows, wordsOf, allRows, allWords, zeros}
+use Rattle.format.specs.Rows.{Row, rowAt, rowWords, rowOf, rows, wordsOf, allRows, allWords, zeros, filled}
+use Rattle.format.specs.Read.{wordsAfter}
 use Rattle.format.proofs.RowWords.{length-words, row-there, row-past, zero-kind}
 use Rattle.laws.specs.Places.{At, here, under, later}
 use Rattle.laws.proofs.Rows.{length-rows}
@@ -105,19 +107,24 @@ at-split {n} (later {t = t} {below = below} x) =
 abbrev pub Rowed : List ℕ → ℕ → Forest → Type 0
 Rowed ws n f = (k : ℕ) (t : Token) (v : Forest) → At n f k t v → rowAt ws k ≡ rowOf t (suc k + size v)
 
-module _ (f : Forest) (ws : List ℕ) (filled : Filled f ws) where
+-- what reading leaves in lent words is so filled
+pub read-fills : (words : ℕ) (f : Forest) → Filled f (wordsAfter words (done f))
+unfolding wordsAfter filled
+read-fills words f = record { spare = words - length (allWords f); words-are = refl }
+
+module _ (f : Forest) (ws : List ℕ) (full : Filled f ws) where
   pub filled-rows : Rowed ws 0 f
   unfolding allWords allRows
   filled-rows k t v x =
       let s = at-split x in
-      rw (filled .words-are, s .2) (row-there (s .0) (s .1) _ (zeros (filled .spare)) k (let q = s .3 in omega arith))
+      rw (full .words-are, s .2) (row-there (s .0) (s .1) _ (zeros (full .spare)) k (let q = s .3 in omega arith))
 
   -- and no row after those
   pub filled-after : (k : ℕ) → size f ≤ k → rowAt ws k .kind ≡ 0
   unfolding allWords allRows
   filled-after k h =
-      rw (filled .words-are, row-past (rows 0 f) (zeros (filled .spare)) k (omega (arith, length-rows 0 f))) (zero-kind (filled .spare) _)
+      rw (full .words-are, row-past (rows 0 f) (zeros (full .spare)) k (omega (arith, length-rows 0 f))) (zero-kind (full .spare) _)
 
   pub filled-enough : size f * rowWords ≤ length ws
   unfolding allWords allRows
-  filled-enough = rw (filled .words-are) (omega (arith, length-append (wordsOf (rows 0 f)) (zeros (filled .spare)), length-words (rows 0 f), length-rows 0 f))
+  filled-enough = rw (full .words-are) (omega (arith, length-append (wordsOf (rows 0 f)) (zeros (full .spare)), length-words (rows 0 f), length-rows 0 f))

@@ -2,21 +2,21 @@
 -- Assumes nothing.
 use Prim.Native.Nat.{ℕ, zero, suc, _+_, _≤_, _<_}
 use mathlib.Core.Path.{_≡_, refl, sym, subst, ap, _∙_}
-use mathlib.Core.Bool.{Bool, true, false, not, _&&_, _||_}
+use mathlib.Core.Bool.{Bool, true, false, not, _&&_}
 use mathlib.Core.List.{List}
 use mathlib.Core.Logic.{_⊎_, inl, inr}
 use native.Mathlib.Omega.{arith}
 use native.Mathlib.Decide.{decLt}
 use native.Mathlib.Numerals.{add-one}
-use lib.Dec.{ltb, leb, eqb}
+use lib.Dec.{ltb, eqb}
 use borrow.Author.Tests.{lt-ltb, le-ltb, eq-eqb, ne-eqb}
 use Rattle.format.specs.Conditions.{if_then_else_}
 use Rattle.format.specs.Outcome.{Outcome, fault, done, _>>=_, _>>_, guard}
 use Rattle.format.specs.Refusals.{rowsDontFit}
 use Rattle.format.specs.Marks.{Opening, bracket, brace, opens, isLeaf, 'S'}
 use Rattle.format.specs.Tokens.{Token, key as keyKind, leaf as leafKind, schemaRecord, plainCount, Forest, none, node, size}
-use Rattle.format.specs.Rows.{Row, rowAt, rowOf}
-use Rattle.format.specs.Addresses.{isA, isKey, isLeafRow, isSchema, isFixed, isMember, along, seek}
+use Rattle.format.specs.Rows.{rowAt, rowOf}
+use Rattle.format.specs.Addresses.{isKey, isLeafRow, isSchema, isFixed, isMember, seek}
 use Rattle.laws.specs.Places.{At, here, under, later}
 use Rattle.laws.proofs.Schemas.{Is, groupKind, keyed, Members, noMore, key, leaf, group}
 use Rattle.storage.specs.Places.{Field, own, next}

@@ -1,22 +1,19 @@
 -- The storage of a packed array and of a table that reading gives. Assumes nothing.
-use Prim.Native.Nat.{ℕ, _+_, _*_, _≤_, _<_}
+use Prim.Native.Nat.{ℕ, _*_}
 use mathlib.Core.Path.{_≡_, refl, sym, subst, ap, _∙_}
-use mathlib.Core.Bool.{Bool, true, false}
-use mathlib.Core.List.{List, [], _∷_, List·Memᴰ, List·Memᴰ·head, List·Memᴰ·tail}
-use native.Mathlib.Omega.{arith}
+use mathlib.Core.List.{List, [], _∷_, List·Memᴰ}
 use native.Mathlib.Nat.{mul-one}
 use lib.Dec.{eqb}
 use Rattle.format.specs.Conditions.{if_then_else_}
 use Rattle.format.specs.Marks.{Opening, bracket, brace, opens, width}
-use Rattle.format.specs.Tokens.{Token, packed as packedKind, table as tableKind, leaf as leafKind, isKind, plainCount, Forest, none, node, belowFirst, afterFirst, counts}
+use Rattle.format.specs.Tokens.{Token, leaf as leafKind, isKind, plainCount, Forest, node, belowFirst, afterFirst, counts}
 use Rattle.format.specs.Records.{totalWidth}
 use Rattle.format.specs.Indexes.{product, indexes, numberIn}
 use Rattle.format.specs.Storage.{Slot, memberRow, elements, records, layoutOf, slotsOf, dimensionsOf, storage}
-use Rattle.laws.specs.Places.{At, Apart}
 use Rattle.laws.specs.Tiles.{Tiles}
 use Rattle.laws.proofs.Slots.{tiles-at, elements-tile, records-tile, members-measured}
 use Rattle.storage.specs.Places.{Field}
-use Rattle.storage.specs.Addresses.{Address, inPacked, inTable, addressOf, Below}
+use Rattle.storage.specs.Addresses.{inPacked, inTable, addressOf, Below}
 use Rattle.storage.proofs.Places.{field-same}
 use Rattle.storage.proofs.Numbering.{Numbered, numbered-length, indexes-numbered, in-indexes, of-indexes}
 use Rattle.laws.proofs.Counts.{Shaped, plain, vector}

@@ -3,11 +3,10 @@ use Prim.Native.Nat.{ℕ, zero, suc, _+_, _*_}
 use mathlib.Core.Path.{_≡_, refl, sym, ap, _∙_}
 use mathlib.Core.Bool.{Bool, true, false, false≢true}
 use mathlib.Core.List.{List}
-use mathlib.Core.Logic.{inl, inr}
 use native.Mathlib.Omega.{arith}
 use lib.Dec.{eqb}
 use Rattle.format.specs.Marks.{Opening, bracket, brace, opens, isType, width, left-brace}
-use Rattle.format.specs.Tokens.{Token, Kind, packed as packedKind, table as tableKind, key as keyKind, leaf as leafKind, dimension as dimensionKind, schemaRecord, firstSlowest, firstFastest, isKind, Forest, none, node, alone, _⊕_, size}
+use Rattle.format.specs.Tokens.{Token, Kind, packed as packedKind, table as tableKind, key as keyKind, leaf as leafKind, dimension as dimensionKind, schemaRecord, firstSlowest, firstFastest, isKind, Forest, none, node, alone, _⊕_}
 use Rattle.format.specs.Records.{totalWidth, atOffset, placed}
 use Rattle.format.specs.Sequences.{Reader, _⨾_, repeat, until, spaced}
 use Rattle.format.specs.Scalars as Scalars
@@ -55,6 +54,22 @@ pub at-stored : {n k : ℕ} {f v : Forest} {t : Token} → AllStored f → At n 
 at-stored (token s u a) here c = s c
 at-stored (token s u a) (under x) c = at-stored u x c
 at-stored (token s u a) (later x) c = at-stored a x c
+
+-- by its kind
+pub as-packed : {t : Token} {below : Forest} → Stored t below → t .kind ≡ packedKind → IsPacked t below
+as-packed (packedArray ok) e = ok
+as-packed (recordTable ok) e = let k = ok .kind-is in let z : _≡_ {A = ℕ} 0 1 = cc in absurd (omega arith)
+
+-- a table, with its schema and its dimensions
+pub data TableOf (t : Token) : Forest → Type 0 where
+  tableOf : {s : Token} {members dims : Forest} → IsTable t s members dims → TableOf t (node s members dims)
+
+pub table-of : {t s : Token} {members dims : Forest} → TableOf t (node s members dims) → IsTable t s members dims
+table-of (tableOf ok) = ok
+
+pub as-table : {t : Token} {below : Forest} → Stored t below → t .kind ≡ tableKind → TableOf t below
+as-table (packedArray ok) e = let k = ok .kind-is in let z : _≡_ {A = ℕ} 0 1 = cc in absurd (omega arith)
+as-table (recordTable ok) e = tableOf ok
 
 -- ---- forests of tokens
 

@@ -1,63 +1,34 @@
 -- What the address calls answer in the rows of an accepted message, for every address. Assumes nothing.
-use Prim.Native.Nat.{ℕ, suc, _+_, _*_, _≤_, _<_}
+use Prim.Native.Nat.{ℕ, _+_, _≤_}
 use mathlib.Core.Path.{_≡_, refl, sym, subst, ap, _∙_}
-use mathlib.Core.Bool.{Bool, true, false, false≢true}
-use mathlib.Core.List.{List, [], _∷_, List·Memᴰ}
+use mathlib.Core.Bool.{Bool, false}
+use mathlib.Core.List.{List, [], _∷_}
 use mathlib.Core.Logic.{_⊎_, inl, inr}
 use native.Mathlib.Omega.{arith}
 use native.Mathlib.Decide.{decLt}
 use lib.ListN.{length}
 use lib.Dec.{eqb}
-use borrow.Author.Tests.{eqb-true, eqb-false}
 use Rattle.format.specs.Outcome.{Outcome, fault, done, _>>=_}
-use Rattle.format.specs.Refusals.{notThere, rowsDontFit}
+use Rattle.format.specs.Refusals.{rowsDontFit}
 use Rattle.format.specs.Conditions.{among}
 use Rattle.format.specs.Marks.{isType, '[', left-brace}
-use Rattle.format.specs.Tokens.{firstSlowest, firstFastest, Token, Kind, kindNumber, packed, table, leaf, isKind, Forest, none, node, size, belowFirst}
-use Rattle.format.specs.Rows.{Row, rowAt, rowsIn, rowOf}
-use Rattle.format.specs.Storage.{Slot, memberRow, dimensionsOf, storage}
-use Rattle.format.specs.Addresses.{Region, isA, isPacked, isTable, along, packedSlot, tableSlot}
+use Rattle.format.specs.Tokens.{firstSlowest, firstFastest, Token, Kind, kindNumber, packed, table, leaf, Forest, node, size, belowFirst}
+use Rattle.format.specs.Rows.{rowAt, rowsIn}
+use Rattle.format.specs.Storage.{memberRow, dimensionsOf}
+use Rattle.format.specs.Addresses.{Region, isA, isPacked, isTable, packedSlot, tableSlot}
 use Rattle.format.specs.Read.{read}
 use Rattle.laws.specs.Places.{At, IsCut}
-use Rattle.laws.proofs.Holds.{of-done}
-use Rattle.laws.proofs.Order.{InOrder}
-use Rattle.laws.proofs.Bounds.{read-bounded}
 use Rattle.storage.specs.Places.{Filled}
-use Rattle.storage.specs.Addresses.{Address, inPacked, inTable, indexesOf, call, addressOf, regionOf, Names, packedRow, tableLeaf, Below, InRange, inRange}
+use Rattle.storage.specs.Addresses.{Address, inPacked, inTable, indexesOf, call, Names, packedRow, tableLeaf}
 use Rattle.storage.specs.Verdicts.{Verdict, wrongRows, wrongIndexes, answered}
-use Rattle.storage.proofs.KindNumbers.{same-number}
+use Rattle.storage.proofs.KindNumbers.{kind-case}
 use Rattle.storage.proofs.Places.{at-size, at-exists, at-same, field-at, filled-rows, filled-after}
-use Rattle.storage.proofs.Payloads.{payload-inside, payloads-apart}
 use Rattle.storage.proofs.Numbering.{below-case}
-use Rattle.storage.proofs.Stored.{IsPacked, IsTable, Stored, packedArray, recordTable, AllStored, at-stored, read-stored}
+use Rattle.storage.proofs.Stored.{IsTable, Stored, as-packed, TableOf, tableOf, as-table}
 use Rattle.storage.proofs.Walks.{isnt-a, along-unfit}
-use Rattle.storage.proofs.Storage.{packed-address, elementAt, in-packed, table-address, leafAt, in-table}
+use Rattle.storage.proofs.Storage.{packed-address, in-packed, table-address, in-table}
+use Rattle.storage.proofs.MessageSlots.{is-stored, payload-in-message}
 use Rattle.storage.proofs.Calls.{packed-answer, packed-refusal, TableAnswer, noLeaf, noIndexes, aLeaf, table-answer}
-
--- ---- kinds
-
--- a kind is another or not
-kind-case : (k l : Kind) → (k ≡ l) ⊎ (k ≡ l → ⊥)
-kind-case k l = go (eqb (kindNumber k) (kindNumber l)) refl
-  where
-    go : (b : Bool) → eqb (kindNumber k) (kindNumber l) ≡ b → (k ≡ l) ⊎ (k ≡ l → ⊥)
-    go true e = inl (same-number k l (eqb-true (kindNumber k) (kindNumber l) e))
-    go false e = inr (λ q. eqb-false (kindNumber k) (kindNumber l) e (ap (λ x. kindNumber x) q))
-
-pub as-packed : {t : Token} {below : Forest} → Stored t below → t .kind ≡ packed → IsPacked t below
-as-packed (packedArray ok) e = ok
-as-packed (recordTable ok) e = let k = ok .kind-is in let z : _≡_ {A = ℕ} 0 1 = cc in absurd (omega arith)
-
--- a table, with its schema and its dimensions
-pub data TableOf (t : Token) : Forest → Type 0 where
-  tableOf : {s : Token} {members dims : Forest} → IsTable t s members dims → TableOf t (node s members dims)
-
-pub the-table : {t s : Token} {members dims : Forest} → TableOf t (node s members dims) → IsTable t s members dims
-the-table (tableOf ok) = ok
-
-pub as-table : {t : Token} {below : Forest} → Stored t below → t .kind ≡ table → TableOf t below
-as-table (packedArray ok) e = let k = ok .kind-is in let z : _≡_ {A = ℕ} 0 1 = cc in absurd (omega arith)
-as-table (recordTable ok) e = tableOf ok
 
 -- ---- what an address names
 
@@ -80,14 +51,11 @@ names-same (packedRow x k) (packedRow y l) = let e = at-same x y in (refl, e .0,
 names-same (tableLeaf x k u p) (tableLeaf y l v q) = let e = at-same x y in (refl, e .0, e .1)
 
 module _ (m : List ℕ) (rowsLent : ℕ) (f : Forest) (accepted : read m rowsLent ≡ done f) where
-  pub stored : AllStored f
-  stored = of-done f (read-stored m rowsLent) accepted
+  stored : {row : ℕ} {t : Token} {below : Forest} → At 0 f row t below → IsCut (t .kind) → Stored t below
+  stored x c = is-stored m rowsLent f accepted x c
 
-  pub in-order : InOrder 0 (length m) f
-  in-order = of-done f (read-bounded m rowsLent) accepted .1
-
-  pub payload-in-message : {row : ℕ} {t : Token} {below : Forest} → At 0 f row t below → IsCut (t .kind) → t .payload + t .extent ≤ length m
-  payload-in-message x c = payload-inside in-order x c .1
+  fits : {row : ℕ} {t : Token} {below : Forest} → At 0 f row t below → IsCut (t .kind) → t .payload + t .extent ≤ length m
+  fits x c = payload-in-message m rowsLent f accepted x c
 
   module _ (ws : List ℕ) (filled : Filled f ws) where
     -- a row has a token of this kind, or its words don't say that it has
@@ -114,8 +82,8 @@ module _ (m : List ℕ) (rowsLent : ℕ) (f : Forest) (accepted : read m rowsLen
     packed-at : (row : ℕ) (is : List ℕ) (t : Token) (below : Forest) → At 0 f row t below → t .kind ≡ packed → Verdict f (inPacked row is) (packedSlot ws (length m) row is)
     unfolding indexesOf
     packed-at row is t below x k =
-        let ok = as-packed (at-stored stored x (inl k)) k in
-        let i = payload-in-message x (inl k) in
+        let ok = as-packed (stored x (inl k)) k in
+        let i = fits x (inl k) in
         elim (below-case (dimensionsOf t below) is) [
           | inl h ↦ rw (packed-answer f ws filled (length m) row t below x ok i is h) (answered (packedRow x k) h (in-packed row t below ok h) (packed-address row t below ok _))
           | inr c ↦ rw (packed-refusal f ws filled (length m) row t below x ok i is c) (wrongIndexes (packedRow x k) c)
@@ -146,11 +114,11 @@ module _ (m : List ℕ) (rowsLent : ℕ) (f : Forest) (accepted : read m rowsLen
         answered (tableLeaf x (ok .kind-is) (field-at y .1) k) h (in-table row t s members dims ok y k h) (table-address row t s members dims ok _)
 
     table-at : (row leafRow : ℕ) (is : List ℕ) (t : Token) (below : Forest) → At 0 f row t below → t .kind ≡ table → Verdict f (inTable row leafRow is) (tableSlot ws (length m) row leafRow is)
-    table-at row leafRow is t below x k = go (as-table (at-stored stored x (inr k)) k) x
+    table-at row leafRow is t below x k = go (as-table (stored x (inr k)) k) x
       where
         go : {below : Forest} → TableOf t below → At 0 f row t below → Verdict f (inTable row leafRow is) (tableSlot ws (length m) row leafRow is)
         go (tableOf {s = s} {members = members} {dims = dims} ok) x =
-            let i = payload-in-message x (inr k) in
+            let i = fits x (inr k) in
             table-as row leafRow is t s members dims x ok i (table-answer f ws filled (length m) row t s members dims x ok i leafRow is)
 
     table-verdict : (row leafRow : ℕ) (is : List ℕ) → Verdict f (inTable row leafRow is) (tableSlot ws (length m) row leafRow is)

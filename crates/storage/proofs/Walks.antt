@@ -1,22 +1,21 @@
 -- The steps of an address's way, in words that have the rows it meets. Assumes nothing.
 use Prim.Native.Nat.{ℕ, zero, suc, _+_, _-_, _≤_, _<_}
-use mathlib.Core.Path.{_≡_, refl, sym, ap, _∙_}
-use mathlib.Core.Bool.{Bool, true, false, not, _&&_, _||_, false≢true}
+use mathlib.Core.Path.{_≡_, refl, ap}
+use mathlib.Core.Bool.{Bool, true, false, _&&_}
 use mathlib.Core.List.{List, [], _∷_}
 use native.Mathlib.Omega.{arith}
 use lib.ListN.{length}
 use lib.Dec.{ltb, leb, eqb}
-use borrow.Author.Tests.{lt-ltb, le-ltb, le-leb, lt-leb, eq-eqb, ne-eqb, eqb-true}
+use borrow.Author.Tests.{lt-ltb, le-ltb, le-leb, lt-leb, eq-eqb, ne-eqb}
 use Rattle.format.specs.Conditions.{if_then_else_, between}
-use Rattle.format.specs.Outcome.{Outcome, fault, done, _>>=_, _>>_, guard}
+use Rattle.format.specs.Outcome.{fault, done, _>>=_, _>>_, guard}
 use Rattle.format.specs.Limits.{dimensionLimit}
 use Rattle.format.specs.Refusals.{rowsDontFit}
-use Rattle.format.specs.Marks.{isInteger}
-use Rattle.format.specs.Tokens.{Token, Kind, kindNumber, dimension as dimensionKind, plainCount, Forest, none, node, size, counts}
+use Rattle.format.specs.Tokens.{Token, Kind, kindNumber, plainCount, Forest, none, size, counts}
 use Rattle.format.specs.Rows.{Row, rowAt, rowOf}
 use Rattle.format.specs.Bytes.{within}
-use Rattle.format.specs.Addresses.{Region, isA, isDimension, along, dimensionsFrom, dimensions, inside}
-use Rattle.laws.specs.Places.{At, here, under, later}
+use Rattle.format.specs.Addresses.{isA, isDimension, along, dimensionsFrom, dimensions, inside}
+use Rattle.laws.specs.Places.{here, later}
 use Rattle.laws.proofs.Schemas.{Is}
 use Rattle.storage.proofs.KindNumbers.{same-number}
 use Rattle.storage.proofs.Places.{Rowed}
