@@ -1,28 +1,26 @@
 -- The half of demand 3 that is about one message. In the rows of an accepted message the address calls answer exactly the addresses in
 -- range, each with the slot that cutting the payload in storage order gives. Assumes nothing.
 use Prim.Native.Nat.{ℕ, _+_, _-_, _≤_, _<_}
-use mathlib.Core.Path.{_≡_, refl, sym, subst₂, subst₃, ap, _∙_}
+use mathlib.Core.Path.{_≡_, refl, subst₂, subst₃, ap, _∙_}
 use mathlib.Core.List.{List, List·Memᴰ}
 use mathlib.Core.Logic.{_⊎_, inl, inr}
 use native.Mathlib.Omega.{arith}
 use lib.ListN.{length}
 use Rattle.format.specs.Outcome.{Outcome, fault, done}
 use Rattle.format.specs.Refusals.{notThere, rowsDontFit}
-use Rattle.format.specs.Tokens.{Token, Forest, belowFirst}
+use Rattle.format.specs.Tokens.{Token, Forest}
 use Rattle.format.specs.Storage.{Slot, dimensionsOf, storage}
 use Rattle.format.specs.Addresses.{Region}
 use Rattle.format.specs.Read.{read}
 use Rattle.laws.specs.Places.{At, IsCut}
 use Rattle.storage.specs.Places.{Filled}
-use Rattle.storage.specs.Addresses.{Address, indexesOf, call, addressOf, regionOf, Names, packedRow, tableLeaf, Below, InRange, inRange}
+use Rattle.storage.specs.Addresses.{Address, indexesOf, call, addressOf, regionOf, Names, Below, InRange, inRange}
 use Rattle.storage.specs.Regions.{RegionsApart, InOne}
 use Rattle.storage.specs.Verdicts.{Verdict, wrongRows, wrongIndexes, answered}
-use Rattle.storage.proofs.Places.{field-at}
+use Rattle.storage.proofs.Naming.{names-at, names-same}
 use Rattle.storage.proofs.Tiling.{tiles-hold}
-use Rattle.storage.proofs.Stored.{Stored, packedArray, recordTable}
-use Rattle.storage.proofs.Storage.{packed-address, of-packed, table-address, of-table}
-use Rattle.storage.proofs.MessageSlots.{is-stored, payload-in-message, slots-tile, slot-in-payload, slots-apart}
-use Rattle.storage.proofs.Calls.{packed-answer, leaf-answer}
+use Rattle.storage.proofs.Storage.{slot-named, slot-same}
+use Rattle.storage.proofs.MessageSlots.{is-stored, slots-tile, slot-in-payload, slots-apart}
 use Rattle.storage.proofs.Verdicts as Verdicts
 
 module _ (m : List ℕ) (rowsLent : ℕ) (f : Forest) (accepted : read m rowsLent ≡ done f) (ws : List ℕ) (filled : Filled f ws) where
@@ -32,28 +30,6 @@ module _ (m : List ℕ) (rowsLent : ℕ) (f : Forest) (accepted : read m rowsLen
   -- range; else the region of the slot whose address it is.
   pub verdict : (a : Address) → Verdict f a (call ws (length m) a)
   verdict a = Verdicts.verdict m rowsLent f accepted ws filled a
-
-  -- Every slot in storage order has an address in range, and is what the call answers for it.
-  pub slot-answered : {row : ℕ} {t : Token} {below : Forest} {s : Slot (List ℕ)} → At 0 f row t below → IsCut (t .kind) → List·Memᴰ s (storage row t below)
-      → InRange f (addressOf row t s) × (call ws (length m) (addressOf row t s) ≡ done (regionOf t s))
-  unfolding call indexesOf belowFirst
-  slot-answered {row} {t} {s = s} x c = go (is-stored m rowsLent f accepted x c) x
-    where
-      go : {below : Forest} → Stored t below → At 0 f row t below → List·Memᴰ s (storage row t below)
-          → InRange f (addressOf row t s) × (call ws (length m) (addressOf row t s) ≡ done (regionOf t s))
-      go {below} (packedArray ok) x i =
-          let y = of-packed row t below ok i in
-          rw (packed-address row t below ok s) (
-            inRange (packedRow x (ok .kind-is)) (y .0),
-            packed-answer f ws filled (length m) row t below x ok (payload-in-message m rowsLent f accepted x c) (s .element) (y .0) ∙ ap (λ z. done (regionOf t z)) (sym (y .1)),
-          )
-      go (recordTable {s = schema} {members = members} {dimensions = dims} ok) x i =
-          let y = of-table row t schema members dims ok i in
-          rw (table-address row t schema members dims ok s) (
-            inRange (tableLeaf x (ok .kind-is) (field-at (y .found) .1) (y .is-leaf)) (y .in-range),
-            leaf-answer f ws filled (length m) row t schema members dims x ok (payload-in-message m rowsLent f accepted x c) (y .found) (y .is-leaf) (y .in-range)
-                ∙ ap (λ z. done (regionOf t z)) (sym (y .slot-is)),
-          )
 
   -- ---- an address that is answered
 
@@ -91,14 +67,23 @@ module _ (m : List ℕ) (rowsLent : ℕ) (f : Forest) (accepted : read m rowsLen
     where
       go : {o : Outcome Region} → Verdict f a o → (s : Slot (List ℕ)) × List·Memᴰ s (storage row t below) × (addressOf row t s ≡ a) × (o ≡ done (regionOf t s))
       go (wrongRows c) = absurd (c row t below n)
-      go (wrongIndexes p c) = let e = Verdicts.names-same n p in absurd (c (subst₂ (λ u v. Below (indexesOf a) (dimensionsOf u v)) (e .1) (e .2) h))
+      go (wrongIndexes p c) = let e = names-same n p in absurd (c (subst₂ (λ u v. Below (indexesOf a) (dimensionsOf u v)) (e .1) (e .2) h))
       go (answered {s = s} p h i q) =
-          let e = Verdicts.names-same p n in (
+          let e = names-same p n in (
             s,
             subst₃ (λ r u v. List·Memᴰ s (storage r u v)) (e .0) (e .1) (e .2) i,
             subst₂ (λ r u. addressOf r u s ≡ a) (e .0) (e .1) q,
             ap (λ u. done (regionOf u s)) (e .1),
           )
+
+  -- Every slot in storage order has an address in range, and is what the call answers for it.
+  pub slot-answered : {row : ℕ} {t : Token} {below : Forest} {s : Slot (List ℕ)} → At 0 f row t below → IsCut (t .kind) → List·Memᴰ s (storage row t below)
+      → InRange f (addressOf row t s) × (call ws (length m) (addressOf row t s) ≡ done (regionOf t s))
+  slot-answered {row} {t} x c i =
+      let k = is-stored m rowsLent f accepted x c in
+      let n = slot-named k x i in
+      let y = in-range-answered (n .0) (n .1) in
+      (inRange (n .0) (n .1), y .3 ∙ ap (λ z. done (regionOf t z)) (slot-same row k (y .1) i (y .2)))
 
   -- Indexes wrong in number or range: 10.
   pub wrong-indexes : {a : Address} {row : ℕ} {t : Token} {below : Forest} → Names f a row t below → (Below (indexesOf a) (dimensionsOf t below) → ⊥)
@@ -108,7 +93,7 @@ module _ (m : List ℕ) (rowsLent : ℕ) (f : Forest) (accepted : read m rowsLen
       go : {o : Outcome Region} → Verdict f a o → o ≡ fault notThere 0
       go (wrongRows d) = absurd (d _ _ _ n)
       go (wrongIndexes p d) = refl
-      go (answered p h i q) = let e = Verdicts.names-same p n in absurd (c (subst₂ (λ u v. Below (indexesOf a) (dimensionsOf u v)) (e .1) (e .2) h))
+      go (answered p h i q) = let e = names-same p n in absurd (c (subst₂ (λ u v. Below (indexesOf a) (dimensionsOf u v)) (e .1) (e .2) h))
 
   -- No packed row, or no table row and leaf of its schema: 12.
   pub wrong-rows : {a : Address} → ((row : ℕ) (t : Token) (below : Forest) → Names f a row t below → ⊥) → call ws (length m) a ≡ fault rowsDontFit 0
@@ -126,8 +111,8 @@ module _ (m : List ℕ) (rowsLent : ℕ) (f : Forest) (accepted : read m rowsLen
       → (t .payload ≤ r .first) × (r .first + r .wide ≤ t .payload + t .extent)
   region-in-payload {a} {r} {t = t} e n =
       let x = answer a r e in
-      let q = Verdicts.names-same (x .named) n in
-      let p = Verdicts.names-at (x .named) in
+      let q = names-same (x .named) n in
+      let p = names-at (x .named) in
       let i = slot-in-payload m rowsLent f accepted (p .0) (p .1) (x .member) in
       subst₂ (λ u (z : Region). (u .payload ≤ z .first) × (z .first + z .wide ≤ u .payload + u .extent)) (q .1) (x .region-is) i
 
@@ -137,8 +122,8 @@ module _ (m : List ℕ) (rowsLent : ℕ) (f : Forest) (accepted : read m rowsLen
   answers-apart a b r q e d =
       let x = answer a r e in
       let y = answer b q d in
-      let n = Verdicts.names-at (x .named) in
-      let k = Verdicts.names-at (y .named) in
+      let n = names-at (x .named) in
+      let k = names-at (y .named) in
       subst₂ (λ c c′. (c ≡ c′) ⊎ RegionsApart r q) (x .address-is) (y .address-is)
       (subst₂ (λ z z′. (addressOf (x .row) (x .token) (x .own) ≡ addressOf (y .row) (y .token) (y .own)) ⊎ RegionsApart z z′) (x .region-is) (y .region-is)
       (slots-apart m rowsLent f accepted (n .0) (k .0) (n .1) (k .1) (x .member) (y .member)))

@@ -24,6 +24,7 @@ formulaOf brace n wide field leaf r = n * field .payload + r * field .extent + (
 
 -- of elements or records in their order
 module _ {A : Type 0} {number : A → ℕ} {count : ℕ} {l : List A} (numbered : Numbered number count 0 l) where
+  -- every element has its slot
   pub in-elements : (row mark place : ℕ) {a : A} → List·Memᴰ a l → place ≡ number a * width mark
       → List·Memᴰ (elementSlot row mark a place) (elements row mark l)
   unfolding elements
@@ -31,6 +32,7 @@ module _ {A : Type 0} {number : A → ℕ} {count : ℕ} {l : List A} (numbered 
       let q : place ≡ 0 + number a * width mark = omega arith in
       in-cut numbered 0 (width mark) _ m (List·Memᴰ·head (ap (elementSlot row mark a) q))
 
+  -- and every slot is an element's
   pub of-elements : (row mark : ℕ) {s : Slot A} → List·Memᴰ s (elements row mark l)
       → List·Memᴰ (s .element) l × (s ≡ elementSlot row mark (s .element) (number (s .element) * width mark))
   unfolding elements
@@ -50,6 +52,7 @@ module _ {A : Type 0} {number : A → ℕ} {count : ℕ} {l : List A} (numbered 
     pub in-list : List·Memᴰ (s .element) l
     pub slot-is : s ≡ leafSlot (s .leafRow) token (s .element) (formula field token (number (s .element)))
 
+  -- a slot of a leaf that stands where the formula says
   table-slot : {n row : ℕ} {f : Forest} {u t : Token} {a : A} {s : Slot A} (formula : Token → Token → ℕ → ℕ) → Field n f row u (s .leafRow) t → t .kind ≡ leafKind
       → List·Memᴰ a l → s ≡ leafSlot (s .leafRow) t a (s .offset) → s .offset ≡ formula u t (number a) → TableSlot n f formula s
   table-slot {row = row} {u = u} {t = t} {a = a} {s = s} formula x k m e q =
@@ -95,6 +98,7 @@ module _ {A : Type 0} {number : A → ℕ} {count : ℕ} {l : List A} (numbered 
   unfolding byColumns column
   columns-step offset n t below after = rw (numbered-length numbered, mul-add count offset (memberWidth t))
 
+  -- the fields from one on, whose first offset is given: every leaf of every record has its slot
   in-columns-from : {offset n row leafRow : ℕ} {f : Forest} {u t : Token} {a : A} → Placed offset f → Field n f row u leafRow t → t .kind ≡ leafKind → List·Memᴰ a l
       → List·Memᴰ (leafSlot leafRow t a (formulaOf brace count 0 u t (number a))) (byColumns n f l (count * offset))
   unfolding column
@@ -107,6 +111,7 @@ module _ {A : Type 0} {number : A → ℕ} {count : ℕ} {l : List A} (numbered 
   in-columns-from {offset} {n} p (next {u = u} {below = below} {after = after} x) k m =
       rw (columns-step offset n u below after) (Memᴰ·append-right (column n u below (count * offset)) (in-columns-from (rest p) x k m))
 
+  -- and every slot is a leaf's
   of-columns-from : {offset n : ℕ} (wide : ℕ) (f : Forest) {s : Slot A} → Placed offset f → List·Memᴰ s (byColumns n f l (count * offset)) → TableSlot n f (formulaOf brace count wide) s
   unfolding column
   of-columns-from {n = n} wide none p m = absurd (no-columns n _ m)
@@ -140,12 +145,14 @@ module _ {A : Type 0} {number : A → ℕ} {count : ℕ} {l : List A} (numbered 
   -- ---- by either
 
   module _ (n : ℕ) {f : Forest} (p : Placed 0 f) where
+    -- every leaf of every record has its slot
     pub in-records : (o : Opening) {row leafRow : ℕ} {u t : Token} {a : A} → Field n f row u leafRow t → t .kind ≡ leafKind → List·Memᴰ a l
         → List·Memᴰ (leafSlot leafRow t a (formulaOf o count (totalWidth f) u t (number a))) (records o n f l)
     unfolding records
     in-records bracket x k m = in-rows n p x k m
     in-records brace x k m = in-columns n p x k m
 
+    -- and every slot is a leaf's
     pub of-records : (o : Opening) {s : Slot A} → List·Memᴰ s (records o n f l) → TableSlot n f (formulaOf o count (totalWidth f)) s
     unfolding records
     of-records bracket m = of-rows n p m

@@ -9,6 +9,7 @@ use Rattle.format.specs.Storage.{Slot, endToEnd}
 use Rattle.storage.proofs.Numbering.{Numbered, stop, step}
 
 module _ {A : Type 0} {number : A → ℕ} {end : ℕ} (base w : ℕ) (cut : A → ℕ → List (Slot A)) where
+  -- a slot of a value is one of them all
   in-end : {k : ℕ} {l : List A} {a : A} {s : Slot A} → Numbered number end k l → List·Memᴰ a l → List·Memᴰ s (cut a (base + number a * w))
       → List·Memᴰ s (endToEnd l w cut (base + k * w))
   unfolding endToEnd
@@ -18,6 +19,7 @@ module _ {A : Type 0} {number : A → ℕ} {end : ℕ} (base w : ℕ) (cut : A �
       let e : base + suc k * w ≡ base + k * w + w = omega (arith, suc-mul k w) in
       Memᴰ·append-right (cut b (base + k * w)) (subst (λ x. List·Memᴰ s (endToEnd l w cut x)) e (in-end r n m))
 
+  -- and a slot of them all is one of a value
   of-end : {k : ℕ} {l : List A} {s : Slot A} → Numbered number end k l → List·Memᴰ s (endToEnd l w cut (base + k * w))
       → (a : A) × List·Memᴰ a l × List·Memᴰ s (cut a (base + number a * w))
   unfolding endToEnd

@@ -16,6 +16,7 @@ use Rattle.laws.proofs.Schemas.{groupKind}
 byNumber : List Kind
 byNumber = scalar ∷ scalar ∷ text ∷ highPrecision ∷ key ∷ array ∷ object ∷ packed ∷ table ∷ leaf ∷ schemaRecord ∷ fixedArray ∷ dimension ∷ []
 
+-- a kind is found by its number
 found : (k : Kind) → getD byNumber (kindNumber k) scalar ≡ k
 unfolding byNumber
 found scalar = refl
@@ -31,9 +32,11 @@ found schemaRecord = refl
 found fixedArray = refl
 found dimension = refl
 
+-- so kinds of one number are the same
 pub same-number : (k l : Kind) → kindNumber k ≡ kindNumber l → k ≡ l
 same-number k l e = sym (found k) ∙ ap (λ n. getD byNumber n scalar) e ∙ found l
 
+-- keys, schemas and fixed arrays are no leaves
 pub key-no-leaf : {k : Kind} → k ≡ key → k ≡ leaf → ⊥
 key-no-leaf e q = let z : _≡_ {A = ℕ} 0 1 = cc in omega arith
 

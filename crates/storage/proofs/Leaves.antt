@@ -18,6 +18,7 @@ use Rattle.storage.proofs.KindNumbers.{key-no-leaf, group-no-leaf}
 use Rattle.storage.proofs.Places.{no-at}
 use Rattle.storage.proofs.Offsets.{Placed, placedNone, placedKey, placedLeaf, placedGroup}
 
+-- what a member takes of a record: a key nothing, the others their width
 key-width : (t : Token) → t .kind ≡ keyKind → memberWidth t ≡ 0
 unfolding memberWidth isKind if_then_else_
 key-width t e = rw e
@@ -37,6 +38,7 @@ abbrev pub elementSlot : {A : Type 0} → ℕ → ℕ → A → ℕ → Slot A
 elementSlot row mark a offset = record { leafRow = row; element = a; mark = mark; offset = offset; wide = width mark }
 
 module _ {A : Type 0} (a : A) where
+  -- the slots of a member and those after it, by its kind
   leaves-key : (n at : ℕ) (t : Token) (after : Forest) → t .kind ≡ keyKind → leaves n (node t none after) a at ≡ leaves (suc n + size none) after a at
   unfolding leaves memberWidth isKind if_then_else_
   leaves-key n at t after e = let z : at + 0 ≡ at = omega arith in rw (e, z)

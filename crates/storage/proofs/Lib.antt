@@ -1,5 +1,6 @@
 pub mod KindNumbers
 pub mod Places
+pub mod Naming
 pub mod Payloads
 pub mod Numbering
 pub mod Offsets

@@ -1,6 +1,6 @@
 -- The payloads and slots of an accepted message. Payloads that are cut into slots lie inside the message and apart; their slots lie end to
 -- end, each where 01's formula says. Assumes nothing.
-use Prim.Native.Nat.{ℕ, _+_, _-_, _*_, _≤_}
+use Prim.Native.Nat.{ℕ, _+_, _≤_}
 use mathlib.Core.Path.{_≡_, refl, sym, subst, subst₃, ap, _∙_}
 use mathlib.Core.List.{List, List·Memᴰ}
 use mathlib.Core.Logic.{_⊎_, inl, inr}
@@ -30,6 +30,7 @@ use Rattle.storage.proofs.Leaves.{leafSlot}
 use Rattle.storage.proofs.Cuts.{formulaOf}
 use Rattle.storage.proofs.Storage.{of-packed, slot-at, stored-tiles}
 
+-- regions that start at one place
 same-first : {mark first first′ wide : ℕ} → first ≡ first′
     → _≡_ {A = Region} (record { mark = mark; first = first; wide = wide }) (record { mark = mark; first = first′; wide = wide })
 same-first {mark} {wide = wide} e = ap (λ x. record { mark = mark; first = x; wide = wide }) e
@@ -51,6 +52,7 @@ module _ (m : List ℕ) (rowsLent : ℕ) (f : Forest) (accepted : read m rowsLen
 
   -- ---- slots
 
+  -- a packed array or table is one that reading gives
   pub is-stored : {row : ℕ} {t : Token} {below : Forest} → At 0 f row t below → IsCut (t .kind) → Stored t below
   is-stored x c = at-stored (of-done f (read-stored m rowsLent) accepted) x c
 

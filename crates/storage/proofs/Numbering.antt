@@ -17,6 +17,7 @@ use Rattle.storage.specs.Addresses.{Below, noIndex, index}
 
 -- ---- in range
 
+-- the definition's test says the same
 pub below-range : {is ds : List ℕ} → Below is ds → inRange ds is ≡ true
 unfolding inRange
 below-range noIndex = refl
@@ -41,6 +42,7 @@ below-case ds is = go (inRange ds is) refl
     go true e = inl (range-below ds is e)
     go false e = inr (λ h. false≢true (sym e ∙ below-range h))
 
+-- indexes that aren't in range fail the test
 pub not-in-range : (ds is : List ℕ) → (Below is ds → ⊥) → inRange ds is ≡ false
 not-in-range ds is c = go (inRange ds is) refl
   where
@@ -50,6 +52,7 @@ not-in-range ds is c = go (inRange ds is) refl
 
 -- ---- the members of these lists
 
+-- numbers counted
 in-count : (i k n : ℕ) → k ≤ i → i < k + n → List·Memᴰ i (countFrom k n)
 unfolding countFrom
 in-count i k zero h q = absurd (omega arith)
@@ -67,6 +70,7 @@ of-below : {i : ℕ} (n : ℕ) → List·Memᴰ i (below n) → i < n
 of-below n m = let x = of-count 0 n m in omega arith
 
 module _ {A B : Type 0} (f : A → List B) where
+  -- what is in a list for one of a list is in them all, and the other way
   in-each : {x : B} {a : A} {l : List A} → List·Memᴰ a l → List·Memᴰ x (f a) → List·Memᴰ x (each l f)
   unfolding each
   in-each {x} (List·Memᴰ·head e) h = Memᴰ·append-left _ (rw e at h)
@@ -80,6 +84,7 @@ module _ {A B : Type 0} (f : A → List B) where
     | inr h ↦ (let r = of-each l h in (r .0, List·Memᴰ·tail (r .1), r .2))
   ]
 
+-- all indexes in range are there
 in-last : {is ds : List ℕ} → Below is ds → List·Memᴰ is (lastMoving ds)
 unfolding lastMoving
 in-last noIndex = List·Memᴰ·head refl
@@ -90,6 +95,7 @@ unfolding firstMoving
 in-first noIndex = List·Memᴰ·head refl
 in-first (index {i = i} {d = d} {is = is} h r) = in-each _ (in-first r) (Memᴰ·map (λ j. j ∷ is) (in-below i d h))
 
+-- and no others
 of-last : {is : List ℕ} (ds : List ℕ) → List·Memᴰ is (lastMoving ds) → Below is ds
 unfolding lastMoving
 of-last [] m = rw (List·Memᴰ·eq-of-singleton m) noIndex
@@ -121,10 +127,12 @@ module _ {A : Type 0} {number : A → ℕ} where
   counted : {k end : ℕ} {a : A} {l : List A} → number a ≡ k → Numbered number end (suc k) l → Numbered number end k (a ∷ l)
   counted h r = step h r
 
+  -- said with other numbers that are the same
   numbered-at : {k end : ℕ} {l : List A} (k′ end′ : ℕ) → k ≡ k′ → end ≡ end′ → Numbered number end k l → Numbered number end′ k′ l
   numbered-at k′ end′ p q (stop h) = ended (omega arith)
   numbered-at k′ end′ p q (step h r) = counted (omega arith) (numbered-at (suc k′) end′ (omega arith) q r)
 
+  -- one list, and then another
   numbered-append : {k mid end : ℕ} {l r : List A} → Numbered number mid k l → Numbered number end mid r → Numbered number end k (l ++ r)
   numbered-append (stop h) b = numbered-at _ _ (sym h) refl b
   numbered-append (step h a) b = step h (numbered-append a b)
@@ -134,9 +142,11 @@ module _ {A : Type 0} {number : A → ℕ} where
   numbered-from (stop h) = omega arith
   numbered-from (step h r) = let x = numbered-from r in omega arith
 
+  -- from 0 on
   pub numbered-length : {end : ℕ} {l : List A} → Numbered number end 0 l → length l ≡ end
   numbered-length n = let x = numbered-from n in omega arith
 
+-- numbers are numbered by themselves
 numbered-count : (k n : ℕ) → Numbered (λ i. i) (k + n) k (countFrom k n)
 unfolding countFrom
 numbered-count k zero = ended (omega arith)
@@ -145,6 +155,7 @@ numbered-count k (suc n) = step refl (numbered-at (suc k) (k + suc n) refl (omeg
 numbered-below : (n : ℕ) → Numbered (λ i. i) n 0 (below n)
 numbered-below n = numbered-at 0 n refl (omega arith) (numbered-count 0 n)
 
+-- a list of things made of others, whose numbers are `base` higher
 numbered-map : {A B : Type 0} {number : A → ℕ} {number′ : B → ℕ} {k end : ℕ} {l : List A} (g : A → B) (base : ℕ)
     → ((a : A) → number′ (g a) ≡ base + number a) → Numbered number end k l → Numbered number′ (base + end) (base + k) (map g l)
 numbered-map g base h (stop q) = ended (omega arith)
@@ -161,6 +172,7 @@ numbered-each f w h (stop q) = stop (ap (λ x. w * x) q)
 numbered-each {number′ = number′} f w h {k} (step {a = a} q r) =
     numbered-append (subst (λ x. Numbered number′ (w * x + w) (w * x) (f a)) q (h a)) (numbered-at _ _ (mul-suc w k) refl (numbered-each f w h r))
 
+-- the last index moving fastest, and the first
 numbered-last : (ds : List ℕ) → Numbered (lastNumber ds) (product ds) 0 (lastMoving ds)
 unfolding lastMoving lastNumber product
 numbered-last [] = step refl (stop refl)
@@ -182,6 +194,7 @@ numbered-first (d ∷ ds) =
 -- ---- in storage order
 
 module _ (order : ℕ) (ds : List ℕ) where
+  -- the formula numbers them 0, 1 and so on
   pub indexes-numbered : Numbered (numberIn order ds) (product ds) 0 (indexes order ds)
   unfolding indexes numberIn if_then_else_
   indexes-numbered = go (eqb order firstFastest)
@@ -190,6 +203,7 @@ module _ (order : ℕ) (ds : List ℕ) where
       go true = numbered-first ds
       go false = numbered-last ds
 
+  -- all indexes in range are there
   pub in-indexes : {is : List ℕ} → Below is ds → List·Memᴰ is (indexes order ds)
   unfolding indexes if_then_else_
   in-indexes {is} h = go (eqb order firstFastest)
@@ -198,6 +212,7 @@ module _ (order : ℕ) (ds : List ℕ) where
       go true = in-first h
       go false = in-last h
 
+  -- and no others
   pub of-indexes : {is : List ℕ} → List·Memᴰ is (indexes order ds) → Below is ds
   unfolding indexes if_then_else_
   of-indexes {is} m = go (eqb order firstFastest) m

@@ -21,6 +21,7 @@ pub data Placed : ℕ → Forest → Type 0 where
 -- ---- offsets change neither widths nor what stands where
 
 module _ (offset : ℕ) (t : Token) (below after : Forest) where
+  -- a key keeps its place, any other member gets its offset
   key-placed : t .kind ≡ keyKind → placed offset (node t below after) ≡ node t below (placed offset after)
   unfolding placed if_then_else_
   key-placed e = let k : isKind keyKind (t .kind) ≡ true = rw e key-kind in rw k
@@ -29,6 +30,7 @@ module _ (offset : ℕ) (t : Token) (below after : Forest) where
   unfolding placed if_then_else_
   member-placed s = rw (s .not-key)
 
+-- members are as wide as before
 pub width-placed : (offset : ℕ) (f : Forest) → totalWidth (placed offset f) ≡ totalWidth f
 unfolding placed totalWidth memberWidth atOffset if_then_else_
 width-placed offset none = refl
@@ -40,10 +42,12 @@ width-placed offset (node t below after) = go (isKind keyKind (t .kind)) refl (w
     go true e p q = rw e (ap (λ w. 0 + w) p)
     go false e p q = rw e (ap (λ w. t .extent + w) q)
 
+-- a token at an offset is of the same kind
 pub is-placed : {kind : Kind} {marks : ℕ → Bool} {t : Token} (offset : ℕ) → Is kind marks t → Is kind marks (atOffset offset t)
 unfolding atOffset
 is-placed offset i = record { kind-is = i .kind-is; mark-is = i .mark-is; order-is = i .order-is }
 
+-- the same members stand there
 pub members-placed : {k due : Bool} {f : Forest} (offset : ℕ) → Members k due f → Members k due (placed offset f)
 unfolding placed atOffset
 members-placed offset noMore = noMore
@@ -54,6 +58,7 @@ members-placed offset (group o {t = t} {below = below} {after = after} i e u r) 
     rw (member-placed offset t below after (rw (i .kind-is) (group-kind o)))
     (group o (is-placed offset i) (e ∙ sym (width-placed offset below)) (members-placed offset u) (members-placed (offset + t .extent) r))
 
+-- at their offsets
 pub offsets-placed : {k due : Bool} {f : Forest} (offset : ℕ) → Members k due f → Placed offset (placed offset f)
 unfolding placed atOffset
 offsets-placed offset noMore = placedNone

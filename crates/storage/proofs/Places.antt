@@ -23,6 +23,7 @@ at-size here = (omega arith, omega arith)
 at-size (under x) = let i = at-size x in (omega arith, omega arith)
 at-size (later x) = let i = at-size x in (omega arith, omega arith)
 
+-- no row of none
 pub no-at : {n k : ℕ} {t : Token} {v : Forest} → At n none k t v → ⊥
 no-at x = elim x [ ]
 
@@ -69,6 +70,7 @@ pub field-row : {n row k : ℕ} {f : Forest} {u t : Token} → Field n f row u k
 field-row (own x) = (_, here)
 field-row (next x) = let r = field-row x in (r .0, later (r .1))
 
+-- as the row in it does
 pub field-at : {n row k : ℕ} {f : Forest} {u t : Token} → Field n f row u k t → (v : Forest) × At n f k t v
 field-at (own here) = (_, here)
 field-at (own (under x)) = (_, under x)
@@ -113,6 +115,7 @@ unfolding wordsAfter filled
 read-fills words f = record { spare = words - length (allWords f); words-are = refl }
 
 module _ (f : Forest) (ws : List ℕ) (full : Filled f ws) where
+  -- every token's row is there
   pub filled-rows : Rowed ws 0 f
   unfolding allWords allRows
   filled-rows k t v x =
@@ -125,6 +128,7 @@ module _ (f : Forest) (ws : List ℕ) (full : Filled f ws) where
   filled-after k h =
       rw (full .words-are, row-past (rows 0 f) (zeros (full .spare)) k (omega (arith, length-rows 0 f))) (zero-kind (full .spare) _)
 
+  -- there are words for all rows
   pub filled-enough : size f * rowWords ≤ length ws
   unfolding allWords allRows
   filled-enough = rw (full .words-are) (omega (arith, length-append (wordsOf (rows 0 f)) (zeros (full .spare)), length-words (rows 0 f), length-rows 0 f))

@@ -33,6 +33,7 @@ pub data Sought (n : ℕ) (f : Forest) (leafRow : ℕ) : Outcome ℕ → Type 0 
   found : {row : ℕ} {t l : Token} → Field n f row t leafRow l → l .kind ≡ leafKind → Sought n f leafRow (done row)
   missing : NoLeaf n f leafRow → Sought n f leafRow (fault rowsDontFit 0)
 
+-- of an answer that equals another
 sought-as : {n leafRow : ℕ} {f : Forest} {o : Outcome ℕ} (o′ : Outcome ℕ) → o′ ≡ o → Sought n f leafRow o → Sought n f leafRow o′
 sought-as {n} {leafRow} {f} o′ e s = subst (λ x. Sought n f leafRow x) (sym e) s
 
@@ -92,6 +93,7 @@ pass : {n leafRow : ℕ} {t : Token} {below after : Forest} {o : Outcome ℕ} �
 pass p q (found x k) = found (next x) k
 pass p q (missing c) = missing (no-leaf p q c)
 
+-- at a leaf
 leaf-visit : {n leafRow : ℕ} {t : Token} {after : Forest} {rest : Outcome ℕ} (inside : Outcome ℕ) → t .kind ≡ leafKind → Sought (suc n + size none) after leafRow rest
     → Sought n (node t none after) leafRow (visit leafRow n (suc n + size none) true inside rest)
 unfolding size guard _>>_
@@ -103,6 +105,7 @@ leaf-visit {n} {leafRow} {t} {after} {rest} inside k s = go (stands leafRow n (s
     go (between p q) = absurd (omega arith)
     go (past p) = sought-as _ (visit-past leafRow n _ _ inside rest p (omega arith)) (pass (λ e _. omega arith) (λ l v x _. no-at x) s)
 
+-- at a schema or fixed array
 group-visit : {n leafRow : ℕ} {t : Token} {below after : Forest} {inside rest : Outcome ℕ} → (t .kind ≡ leafKind → ⊥) → Sought (suc n) below leafRow inside
     → Sought (suc n + size below) after leafRow rest → Sought n (node t below after) leafRow (visit leafRow n (suc n + size below) false inside rest)
 unfolding guard _>>_ _>>=_
@@ -120,6 +123,7 @@ group-visit {n} {leafRow} {t} {below} {after} {inside} {rest} c i s = go (stands
 
 -- ---- the walk
 
+-- what the rows of keys, leaves, schemas and fixed arrays are
 is-key : {t : Token} (link : ℕ) → Is keyKind (eqb 'S') t → isKey (rowOf t link) ≡ true
 unfolding isKey
 is-key link i = is-one plainCount link i
@@ -162,6 +166,7 @@ module _ (ws : List ℕ) (leafRow : ℕ) where
     unfolding seek visit if_then_else_ _>>=_
     schema-step k n u r h p = rw (k, ends, along-done ws isKey stop n at u r h p (omega arith), along-done ws isMember stop at link t own-row fits up within, own-row)
 
+  -- no member is left
   end-step : (k : Bool) (fuel container n stop : ℕ) → isSchema (rowAt ws container) ≡ k → rowAt ws container .link ≡ stop → stop ≤ n
       → seek ws leafRow (suc fuel) container n ≡ fault rowsDontFit 0
   unfolding seek if_then_else_ _>>=_
@@ -175,6 +180,7 @@ module _ (ws : List ℕ) (leafRow : ℕ) where
   rows-later : {n : ℕ} {t : Token} {below after : Forest} → Rowed ws n (node t below after) → Rowed ws (suc n + size below) after
   rows-later r k u v x = r k u v (later x)
 
+  -- from any member on, with fuel for all that are left
   pub seek-law : {k : Bool} {f : Forest} (fuel container n stop : ℕ) → Members k false f → Rowed ws n f → isSchema (rowAt ws container) ≡ k → rowAt ws container .link ≡ stop
       → stop ≡ n + size f → size f < fuel → Sought n f leafRow (seek ws leafRow fuel container n)
   unfolding size rowOf

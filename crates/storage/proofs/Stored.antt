@@ -50,6 +50,7 @@ pub data AllStored : Forest → Type 0 where
   noToken : AllStored none
   token : {t : Token} {below after : Forest} → (IsCut (t .kind) → Stored t below) → AllStored below → AllStored after → AllStored (node t below after)
 
+-- wherever it stands
 pub at-stored : {n k : ℕ} {f v : Forest} {t : Token} → AllStored f → At n f k t v → IsCut (t .kind) → Stored t v
 at-stored (token s u a) here c = s c
 at-stored (token s u a) (under x) c = at-stored u x c
@@ -67,6 +68,7 @@ pub data TableOf (t : Token) : Forest → Type 0 where
 pub table-of : {t s : Token} {members dims : Forest} → TableOf t (node s members dims) → IsTable t s members dims
 table-of (tableOf ok) = ok
 
+-- a table by its kind
 pub as-table : {t : Token} {below : Forest} → Stored t below → t .kind ≡ tableKind → TableOf t below
 as-table (packedArray ok) e = let k = ok .kind-is in let z : _≡_ {A = ℕ} 0 1 = cc in absurd (omega arith)
 as-table (recordTable ok) e = tableOf ok
@@ -77,6 +79,7 @@ as-table (recordTable ok) e = tableOf ok
 uncut : {t : Token} {below : Forest} (k : Kind) → isCut k ≡ false → t .kind ≡ k → IsCut (t .kind) → Stored t below
 uncut {t} k e q c = absurd (false≢true (sym e ∙ ap isCut (sym q) ∙ cut-kind (t .kind) c .0))
 
+-- such a token alone
 lone : {t : Token} → isCut (t .kind) ≡ false → AllStored (alone t)
 lone {t} e = token (uncut (t .kind) e refl) noToken noToken
 
