@@ -32,9 +32,15 @@ use Rattle.laws.proofs.Skips.{skip-on, skip-inside}
 use Rattle.laws.proofs.Order.{isCut, isOffset, Room, whole, offset, InOrder, nothing, token, order-size, order-widen, order-append, size-append, group-kind, order-placed, size-placed}
 
 -- a type's mark has bytes
-type-wide : (mark : ℕ) → isType mark ≡ true → 0 < width mark
+pub type-wide : (mark : ℕ) → isType mark ≡ true → 0 < width mark
 unfolding isType types integers all width among if_then_else_
 type-wide mark h = ltb-true 0 (width mark) (among-passes (λ k. ltb 0 (width k)) types mark refl h)
+
+-- an array's or object's payload isn't cut into slots
+pub container-uncut : (o : Opening) → isCut (Containers.containerKind o) ≡ false
+unfolding Containers.containerKind isCut isKind
+container-uncut bracket = refl
+container-uncut brace = refl
 
 -- ---- bytes, content and integers
 
@@ -308,14 +314,10 @@ module _ (m : List ℕ) (rowsLent : ℕ) where
 
   container-bounded : (o : Opening) (at start end next row : ℕ) (below : Forest) → at < start → InOrder start end below → end ≤ next → next ≤ length m
       → row + size below < rowsLent → Reads (at + 1) at row (Containers.container o at start end below, next)
-  unfolding Containers.container Containers.containerKind isCut isKind
+  unfolding Containers.container
   container-bounded o at start end next row below h u k i l =
       let x = order-size u in
-      over _ below end next row (order-widen (suc at) end h (omega arith) u) (whole (uncut o) k (omega arith) (omega arith)) i l
-    where
-      uncut : (o : Opening) → isCut (Containers.containerKind o) ≡ false
-      uncut bracket = refl
-      uncut brace = refl
+      over _ below end next row (order-widen (suc at) end h (omega arith) u) (whole (container-uncut o) k (omega arith) (omega arith)) i l
 
   pub counted-items-bounded : (o : Opening) (item : Reader) (from at row : ℕ) → Bounded 0 0 0 item → at < from → row < rowsLent
       → Holds (Short at row) (Reads (at + 1) at row) (Containers.counted m rowsLent o item from at row)

@@ -17,6 +17,7 @@ use Rattle.laws.specs.Places.{At, here, under, later, IsCut}
 use Rattle.laws.proofs.Holds.{Holds, holds, bind-law, then-law, if-law, seq-law, other, guard-law, any-law, weaken}
 use Rattle.laws.proofs.Order.{isCut, cut-kind, OfSchema, leaf-kind, group-kind}
 use Rattle.laws.proofs.Schemas.{Is, groupKind, Group, grouped, Members, noMore, key, leaf, group, Gives, tableSchema-gives}
+use Rattle.laws.proofs.Bounds.{container-uncut}
 use Rattle.laws.proofs.Slots.{member-width}
 use Rattle.storage.proofs.Offsets.{Placed, width-placed, is-placed, member-placed, members-placed, offsets-placed}
 use Rattle.laws.proofs.Counts.{Dimensioned, noDimension, oneDimension, Shaped, plain, vector, shape-gives}
@@ -177,12 +178,8 @@ module _ (m : List ℕ) (rowsLent : ℕ) where
       holds (table-stored _ (s .0) (n .0 .dimensions) o g refl refl refl h)
 
   container-stored : (o : Opening) (at start end : ℕ) (below : Forest) → AllStored below → AllStored (Containers.container o at start end below)
-  unfolding Containers.container Containers.containerKind isCut isKind
-  container-stored o at start end below u = token (uncut (Containers.containerKind o) (go o) refl) u noToken
-    where
-      go : (o : Opening) → isCut (Containers.containerKind o) ≡ false
-      go bracket = refl
-      go brace = refl
+  unfolding Containers.container
+  container-stored o at start end below u = token (uncut (Containers.containerKind o) (container-uncut o) refl) u noToken
 
   counted-stored : (o : Opening) (item : Reader) (from : ℕ) → Gives AllStored item → Gives AllStored (Containers.counted m rowsLent o item from)
   unfolding Containers.counted
