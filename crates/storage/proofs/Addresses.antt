@@ -14,13 +14,12 @@ use Rattle.format.specs.Addresses.{Region}
 use Rattle.format.specs.Read.{read}
 use Rattle.laws.specs.Places.{At, IsCut}
 use Rattle.storage.specs.Places.{Filled}
-use Rattle.storage.specs.Addresses.{Address, indexesOf, call, addressOf, regionOf, Names, Below, InRange, inRange}
+use Rattle.storage.specs.Addresses.{Address, indexesOf, call, addressOf, regionOf, Names, Below, InRange, isInRange}
 use Rattle.storage.specs.Regions.{RegionsApart, InOne}
 use Rattle.storage.specs.Verdicts.{Verdict, wrongRows, wrongIndexes, answered}
 use Rattle.storage.proofs.Naming.{names-at, names-same}
 use Rattle.storage.proofs.Tiling.{tiles-hold}
-use Rattle.storage.proofs.Storage.{slot-named, slot-same}
-use Rattle.storage.proofs.MessageSlots.{is-stored, slots-tile, slot-in-payload, slots-apart}
+use Rattle.storage.proofs.MessageSlots.{slots-tile, slot-in-payload, slot-in-range, one-slot, slots-apart}
 use Rattle.storage.proofs.Verdicts as Verdicts
 
 module _ (m : List ℕ) (rowsLent : ℕ) (f : Forest) (accepted : read m rowsLent ≡ done f) (ws : List ℕ) (filled : Filled f ws) where
@@ -56,7 +55,7 @@ module _ (m : List ℕ) (rowsLent : ℕ) (f : Forest) (accepted : read m rowsLen
 
   -- Only addresses in range are answered.
   pub answered-in-range : (a : Address) (r : Region) → call ws (length m) a ≡ done r → InRange f a
-  answered-in-range a r e = let x = answer a r e in inRange (x .named) (x .in-range)
+  answered-in-range a r e = let x = answer a r e in isInRange (x .named) (x .in-range)
 
   -- ---- the three answers, as equations
 
@@ -79,11 +78,10 @@ module _ (m : List ℕ) (rowsLent : ℕ) (f : Forest) (accepted : read m rowsLen
   -- Every slot in storage order has an address in range, and is what the call answers for it.
   pub slot-answered : {row : ℕ} {t : Token} {below : Forest} {s : Slot (List ℕ)} → At 0 f row t below → IsCut (t .kind) → List·Memᴰ s (storage row t below)
       → InRange f (addressOf row t s) × (call ws (length m) (addressOf row t s) ≡ done (regionOf t s))
-  slot-answered {row} {t} x c i =
-      let k = is-stored m rowsLent f accepted x c in
-      let n = slot-named k x i in
+  slot-answered {t = t} x c i =
+      let n = slot-in-range m rowsLent f accepted x c i in
       let y = in-range-answered (n .0) (n .1) in
-      (inRange (n .0) (n .1), y .3 ∙ ap (λ z. done (regionOf t z)) (slot-same row k (y .1) i (y .2)))
+      (isInRange (n .0) (n .1), y .3 ∙ ap (λ z. done (regionOf t z)) (one-slot m rowsLent f accepted x c (y .1) i (y .2)))
 
   -- Indexes wrong in number or range: 10.
   pub wrong-indexes : {a : Address} {row : ℕ} {t : Token} {below : Forest} → Names f a row t below → (Below (indexesOf a) (dimensionsOf t below) → ⊥)

@@ -19,7 +19,7 @@ use Rattle.laws.proofs.Holds.{of-done}
 use Rattle.laws.proofs.Order.{InOrder}
 use Rattle.laws.proofs.Bounds.{read-bounded}
 use Rattle.storage.specs.Places.{Field}
-use Rattle.storage.specs.Addresses.{addressOf, regionOf}
+use Rattle.storage.specs.Addresses.{indexesOf, addressOf, regionOf, Names, Below}
 use Rattle.storage.specs.Formulas.{inArray, inRow, inColumn}
 use Rattle.storage.specs.Regions.{RegionsApart}
 use Rattle.storage.proofs.Places.{at-same}
@@ -28,7 +28,7 @@ use Rattle.storage.proofs.Tiling.{tile-inside, tiles-apart}
 use Rattle.storage.proofs.Stored.{IsTable, Stored, at-stored, as-packed, as-table, table-of, read-stored}
 use Rattle.storage.proofs.Leaves.{leafSlot}
 use Rattle.storage.proofs.Cuts.{formulaOf}
-use Rattle.storage.proofs.Storage.{of-packed, slot-at, stored-tiles}
+use Rattle.storage.proofs.Storage.{of-packed, slot-at, slot-named, slot-same, stored-tiles}
 
 -- regions that start at one place
 same-first : {mark first first′ wide : ℕ} → first ≡ first′
@@ -66,6 +66,16 @@ module _ (m : List ℕ) (rowsLent : ℕ) (f : Forest) (accepted : read m rowsLen
   unfolding regionOf
   slot-in-payload x c i = let h = tile-inside (slots-tile x c) i in (omega arith, omega arith)
 
+  -- The address of a slot names the row, with indexes in range.
+  pub slot-in-range : {row : ℕ} {t : Token} {below : Forest} {s : Slot (List ℕ)} → At 0 f row t below → IsCut (t .kind) → List·Memᴰ s (storage row t below)
+      → Names f (addressOf row t s) row t below × Below (indexesOf (addressOf row t s)) (dimensionsOf t below)
+  slot-in-range x c i = slot-named (is-stored x c) x i
+
+  -- No two slots of a row have one address.
+  pub one-slot : {row : ℕ} {t : Token} {below : Forest} {s s′ : Slot (List ℕ)} → At 0 f row t below → IsCut (t .kind)
+      → List·Memᴰ s (storage row t below) → List·Memᴰ s′ (storage row t below) → addressOf row t s ≡ addressOf row t s′ → s ≡ s′
+  one-slot {row} x c i j e = slot-same row (is-stored x c) i j e
+
   -- ---- the formulas
 
   -- An element stands where the formula says.
@@ -80,6 +90,7 @@ module _ (m : List ℕ) (rowsLent : ℕ) (f : Forest) (accepted : read m rowsLen
     abbrev numbered : ℕ
     numbered = numberIn (t .order) (dimensionsOf t (node schema members dims)) (s .element)
 
+    -- it is a table, by rows or by columns
     the-table : IsTable t schema members dims
     the-table = table-of (as-table (is-stored x (inr k)) k)
 
@@ -93,6 +104,7 @@ module _ (m : List ℕ) (rowsLent : ℕ) (f : Forest) (accepted : read m rowsLen
         go brace bracket e = absurd (omega arith)
         go brace brace e = refl
 
+    -- the region by the layout's formula
     region-is : (o : Opening) → t .mark ≡ opens o → regionOf t s ≡ regionOf t (leafSlot (s .leafRow) l (s .element) (formulaOf o (t .count) (schema .extent) field l numbered))
     region-is o e = ap (regionOf t) (slot-at row t schema members dims the-table i y)
         ∙ ap (λ p. regionOf t (leafSlot (s .leafRow) l (s .element) (formulaOf p (t .count) (schema .extent) field l numbered))) (by-layout o e)

@@ -44,4 +44,4 @@ pub data Below : List ℕ → List ℕ → Type 0 where
 -- an address is in range if it names such a row and has one index, below word 5, for a plain count, else one for each dimension
 -- row, below that row's word 5
 pub data InRange (f : Forest) (a : Address) : Type 0 where
-  inRange : {row : ℕ} {t : Token} {below : Forest} → Names f a row t below → Below (indexesOf a) (dimensionsOf t below) → InRange f a
+  isInRange : {row : ℕ} {t : Token} {below : Forest} → Names f a row t below → Below (indexesOf a) (dimensionsOf t below) → InRange f a
