@@ -21,12 +21,12 @@ use Rattle.format.specs.Schemas.{leaf, group, plainLeaf, textLeaf, kindBy, nest
 use Rattle.format.proofs.Forests.{width-append}
 use Rattle.laws.proofs.Holds.{Holds, refused, holds, bind-law, then-law, if-law, other, any-law, of-done}
 use Rattle.laws.proofs.Schemas.{group-one, tableSchema-gives}
-use Rattle.laws.proofs.Slots.{members-measured, below-measured, length-count}
+use Rattle.laws.proofs.Slots.{members-measured, below-measured, records-tile, length-count}
 use Rattle.contents.specs.Least.{nowhere, farthest, least, inColumns, inFields}
 use Rattle.contents.specs.Walks.{Walks}
 use Rattle.contents.specs.Tables.{TableAt, FieldFits, FieldOver, FieldWalks}
 use Rattle.contents.specs.declared.columns.Walk.{Walk}
-use Rattle.contents.proofs.Tiles.{records-tiled, verdict, contents-least}
+use Rattle.contents.proofs.Tiles.{verdict, contents-least}
 use Rattle.contents.proofs.LeafByLeaf.{columns-most, fields-most, least-rows, least-by-columns}
 use Rattle.contents.proofs.Groups.{kindOf, Opened, opened, not-nested, group-wide, group-columns, group-below, rest-start, RestOf, Afters, turn, turn-keyed, Turned}
 
@@ -164,7 +164,7 @@ module _ {m : List ℕ} {schema wide count start lent row next : ℕ} {s : Fores
       let h = t .short in
       let e : length (below count) * totalWidth (belowFirst s) ≡ count * wide = rw (c, d) in
       let f : start + length (below count) * totalWidth (belowFirst s) ≤ limit = omega arith in
-      contents-least m start f (records-tiled o n b (below count))
+      contents-least m start f (records-tile o n b (below count))
 
 pub verdict-wrong : (p : ℕ) → p ≤ limit → fault wrongContent p ≡ verdict p
 unfolding verdict if_then_else_

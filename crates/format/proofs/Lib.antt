@@ -4,3 +4,4 @@ pub mod MarkFacts
 pub mod Little
 pub mod IntegerCases
 pub mod Forests
+pub mod RowWords

@@ -2,11 +2,13 @@
 use Prim.Native.Nat.{ℕ, suc, _+_, _≤_}
 use mathlib.Core.Path.{_≡_, refl, sym, _∙_}
 use mathlib.Core.Bool.{Bool, true, false, _||_, false≢true}
+use mathlib.Core.Logic.{inl, inr}
 use native.Mathlib.Omega.{arith}
 use Rattle.format.specs.Conditions.{if_then_else_}
 use Rattle.format.specs.Marks.{Opening, bracket, brace}
 use Rattle.format.specs.Tokens.{Token, Kind, key as keyKind, packed, table, leaf as leafKind, schemaRecord, fixedArray, isKind, Forest, none, node, size, _⊕_}
 use Rattle.format.specs.Records.{atOffset, placed}
+use Rattle.laws.specs.Places.{IsCut}
 use Rattle.laws.proofs.Schemas.{groupKind, Members, noMore, key, leaf, group}
 
 -- the kinds whose payload is cut into slots, and those whose payload is an offset in a record
@@ -15,6 +17,11 @@ isCut kind = isKind packed kind || isKind table kind
 
 unfoldable pub isOffset : Kind → Bool
 isOffset kind = isKind leafKind kind || (isKind schemaRecord kind || isKind fixedArray kind)
+
+pub cut-kind : (kind : Kind) → IsCut kind → (isCut kind ≡ true) × (isOffset kind ≡ false)
+unfolding isCut isOffset isKind
+cut-kind kind (inl e) = rw e (refl, refl)
+cut-kind kind (inr e) = rw e (refl, refl)
 
 -- a token's payload, from its first byte on and up to `end`; if it is cut into slots, after the tokens below it, which end at `mid`
 pub record Room (t : Token) (mid end : ℕ) : Type 0 where

@@ -1,6 +1,6 @@
--- The slots of a payload lie inside it. Assumes nothing.
-use Prim.Native.Nat.{ℕ, zero, suc, _+_, _*_, _≤_, zero-le}
-use mathlib.Core.Path.{_≡_, refl, ap}
+-- The slots of a payload lie end to end, and so inside it. Assumes nothing.
+use Prim.Native.Nat.{ℕ, zero, suc, _+_, _*_, _≤_}
+use mathlib.Core.Path.{_≡_, refl, sym, subst₂, ap, _∙_}
 use mathlib.Core.Bool.{Bool, true, false}
 use mathlib.Core.List.{List, [], _∷_, _++_}
 use native.Mathlib.Omega.{arith}
@@ -12,14 +12,39 @@ use Rattle.format.specs.Tokens.{Token, leaf as leafKind, isKind, Forest, none, 
 use Rattle.format.specs.Records.{memberWidth, totalWidth}
 use Rattle.format.specs.Indexes.{countFrom}
 use Rattle.format.specs.Storage.{Slot, endToEnd, elements, leaves, byRows, byColumns, records}
-use Rattle.format.proofs.Forests.{leaf-width}
+use Rattle.laws.specs.Tiles.{Tiles, noSlot, nextSlot}
 use Rattle.laws.proofs.Schemas.{groupKind, Members, noMore, key, leaf, group}
-use Rattle.laws.proofs.Order.{OfSchema, group-kind}
+use Rattle.laws.proofs.Order.{OfSchema, leaf-kind, group-kind}
 
--- tokens that are as wide as those below them
+-- a leaf, with nothing below it, or a token that is as wide as those below it
 pub data Measured : Forest → Type 0 where
   nothing : Measured none
-  wide : {t : Token} {below after : Forest} → totalWidth below ≤ memberWidth t → Measured below → Measured after → Measured (node t below after)
+  ofLeaf : {t : Token} {after : Forest} → t .kind ≡ leafKind → Measured after → Measured (node t none after)
+  wide : {t : Token} {below after : Forest} → isKind leafKind (t .kind) ≡ false → totalWidth below ≡ memberWidth t → Measured below → Measured after
+      → Measured (node t below after)
+
+-- a member by itself, and those after it
+alone : {t : Token} {below after : Forest} → Measured (node t below after) → Measured (node t below none)
+alone (ofLeaf k r) = ofLeaf k nothing
+alone (wide k h u r) = wide k h u nothing
+
+others : {t : Token} {below after : Forest} → Measured (node t below after) → Measured after
+others (ofLeaf k r) = r
+others (wide k h u r) = r
+
+leaf-is : isKind leafKind leafKind ≡ true
+unfolding isKind
+leaf-is = refl
+
+group-no-leaf : (o : Opening) → isKind leafKind (groupKind o) ≡ false
+unfolding isKind
+group-no-leaf bracket = refl
+group-no-leaf brace = refl
+
+-- a schema's token that is no key
+pub member-width : (t : Token) → OfSchema (t .kind) → memberWidth t ≡ t .extent
+unfolding memberWidth if_then_else_
+member-width t s = rw (s .not-key)
 
 module _ {A : Type 0} where
   -- every slot ends by `end`
@@ -31,52 +56,68 @@ module _ {A : Type 0} where
   inside-widen end′ h nil = nil
   inside-widen end′ h (slot k i) = slot (le-trans k h) (inside-widen end′ h i)
 
-  inside-append : {ss ts : List (Slot A)} {end : ℕ} → Inside end ss → Inside end ts → Inside end (ss ++ ts)
-  inside-append nil j = j
-  inside-append (slot k i) j = slot k (inside-append i j)
+  -- ---- end to end
 
-  inside-if : (b : Bool) {ss ts : List (Slot A)} {end : ℕ} → (b ≡ true → Inside end ss) → Inside end ts → Inside end (if b then ss else ts)
-  unfolding if_then_else_
-  inside-if true i j = i refl
-  inside-if false i j = j
+  -- a constructor as a function: what is expected decides the numbers before `omega` is asked
+  no-slot : {from end : ℕ} → from ≡ end → Tiles {A = A} end from []
+  no-slot h = noSlot h
 
-  endToEnd-inside : (l : List A) (w : ℕ) (cut : A → ℕ → List (Slot A)) → ((a : A) (at : ℕ) → Inside (at + w) (cut a at)) → (at : ℕ)
-      → Inside (at + length l * w) (endToEnd l w cut at)
+  pub tiles-at : {from end : ℕ} {ss : List (Slot A)} (from′ end′ : ℕ) → from ≡ from′ → end ≡ end′ → Tiles end from ss → Tiles end′ from′ ss
+  tiles-at {ss = ss} from′ end′ p q t = subst₂ (λ x y. Tiles y x ss) p q t
+
+  tiles-append : {from mid end : ℕ} {ss ts : List (Slot A)} → Tiles mid from ss → Tiles end mid ts → Tiles end from (ss ++ ts)
+  tiles-append (noSlot h) b = tiles-at _ _ (sym h) refl b
+  tiles-append (nextSlot h a) b = nextSlot h (tiles-append a b)
+
+  pub tiles-end : {from end : ℕ} {ss : List (Slot A)} → Tiles end from ss → from ≤ end
+  tiles-end (noSlot h) = omega arith
+  tiles-end (nextSlot h r) = let x = tiles-end r in omega arith
+
+  tiles-inside : {from end : ℕ} {ss : List (Slot A)} → Tiles end from ss → Inside end ss
+  tiles-inside (noSlot h) = nil
+  tiles-inside {end = end} (nextSlot {s = s} h r) = let x = tiles-end r in let k : s .offset + s .wide ≤ end = omega arith in slot k (tiles-inside r)
+
+  endToEnd-tiles : (l : List A) (w : ℕ) (cut : A → ℕ → List (Slot A)) → ((a : A) (at : ℕ) → Tiles (at + w) at (cut a at)) → (at : ℕ)
+      → Tiles (at + length l * w) at (endToEnd l w cut at)
   unfolding endToEnd
-  endToEnd-inside [] w cut c at = nil
-  endToEnd-inside (a ∷ l) w cut c at =
-      inside-append (inside-widen _ (omega (arith, suc-mul (length l) w)) (c a at))
-      (inside-widen _ (omega (arith, suc-mul (length l) w)) (endToEnd-inside l w cut c (at + w)))
+  endToEnd-tiles [] w cut c at = no-slot (omega arith)
+  endToEnd-tiles (a ∷ l) w cut c at = tiles-append (c a at) (tiles-at _ _ refl (omega (arith, suc-mul (length l) w)) (endToEnd-tiles l w cut c (at + w)))
+
+  -- ---- packed arrays
+
+  pub elements-tile : (row mark : ℕ) (l : List A) → Tiles (length l * width mark) 0 (elements row mark l)
+  unfolding elements
+  elements-tile row mark l = tiles-at 0 _ refl (omega arith) (endToEnd-tiles l (width mark) _ (λ a at. nextSlot refl (no-slot refl)) 0)
 
   pub elements-inside : (row mark : ℕ) (l : List A) → Inside (length l * width mark) (elements row mark l)
-  unfolding elements
-  elements-inside row mark l = inside-widen _ (omega arith) (endToEnd-inside l (width mark) _ (λ a at. slot (omega arith) nil) 0)
+  elements-inside row mark l = tiles-inside (elements-tile row mark l)
 
   -- ---- tables
 
-  leaves-inside : {f : Forest} → Measured f → (n : ℕ) (a : A) (at : ℕ) → Inside (at + totalWidth f) (leaves n f a at)
-  unfolding leaves totalWidth
-  leaves-inside nothing n a at = nil
-  leaves-inside (wide {t = t} {after = after} h u r) n a at =
-      inside-append
-      (inside-if (isKind leafKind (t .kind))
-      (λ k. let e = leaf-width t k in let b : at + t .extent ≤ at + (memberWidth t + totalWidth after) = omega arith in slot b nil)
-      (inside-widen _ (omega arith) (leaves-inside u (suc n) a at)))
-      (inside-widen _ (omega arith) (leaves-inside r _ a (at + memberWidth t)))
+  leaves-tile : {f : Forest} → Measured f → (n : ℕ) (a : A) (at : ℕ) → Tiles (at + totalWidth f) at (leaves n f a at)
+  unfolding leaves totalWidth if_then_else_
+  leaves-tile nothing n a at = no-slot (omega arith)
+  leaves-tile (ofLeaf {t = t} k r) n a at =
+      let b : isKind leafKind (t .kind) ≡ true = rw k leaf-is in
+      rw (b, member-width t (rw k leaf-kind)) (nextSlot refl (tiles-at _ _ refl (omega arith) (leaves-tile r _ a (at + t .extent))))
+  leaves-tile (wide {t = t} k h u r) n a at =
+      rw k (tiles-append (tiles-at at (at + memberWidth t) refl (omega arith) (leaves-tile u (suc n) a at))
+      (tiles-at _ _ refl (omega arith) (leaves-tile r _ a (at + memberWidth t))))
 
-  byColumns-inside : {f : Forest} → Measured f → (n : ℕ) (l : List A) (at : ℕ) → Inside (at + length l * totalWidth f) (byColumns n f l at)
+  byColumns-tile : (f : Forest) → Measured f → (n : ℕ) (l : List A) (at : ℕ) → Tiles (at + length l * totalWidth f) at (byColumns n f l at)
   unfolding byColumns totalWidth
-  byColumns-inside nothing n l at = nil
-  byColumns-inside (wide {t = t} {below = below} {after = after} h u r) n l at =
-      inside-append
-      (inside-widen _ (omega (arith, mul-add (length l) (memberWidth t) (totalWidth after)))
-      (endToEnd-inside l (memberWidth t) _ (λ a b. inside-widen _ (omega arith) (leaves-inside (wide h u nothing) n a b)) at))
-      (inside-widen _ (omega (arith, mul-add (length l) (memberWidth t) (totalWidth after))) (byColumns-inside r _ l (at + length l * memberWidth t)))
+  byColumns-tile none h n l at = no-slot (omega arith)
+  byColumns-tile (node t below after) h n l at =
+      tiles-append (endToEnd-tiles l (memberWidth t) _ (λ a b. tiles-at b _ refl (omega arith) (leaves-tile (alone h) n a b)) at)
+      (tiles-at _ _ refl (omega (arith, mul-add (length l) (memberWidth t) (totalWidth after))) (byColumns-tile after (others h) _ l (at + length l * memberWidth t)))
+
+  pub records-tile : (o : Opening) (n : ℕ) {f : Forest} → Measured f → (l : List A) → Tiles (length l * totalWidth f) 0 (records o n f l)
+  unfolding records byRows
+  records-tile bracket n h l = tiles-at 0 _ refl (omega arith) (endToEnd-tiles l _ _ (λ a at. leaves-tile h n a at) 0)
+  records-tile brace n {f} h l = tiles-at 0 _ refl (omega arith) (byColumns-tile f h n l 0)
 
   pub records-inside : (o : Opening) (n : ℕ) {f : Forest} → Measured f → (l : List A) → Inside (length l * totalWidth f) (records o n f l)
-  unfolding records byRows
-  records-inside bracket n h l = inside-widen _ (omega arith) (endToEnd-inside l _ _ (λ a at. leaves-inside h n a at) 0)
-  records-inside brace n h l = inside-widen _ (omega arith) (byColumns-inside h n l 0)
+  records-inside o n h l = tiles-inside (records-tile o n h l)
 
 -- as many numbers as counted
 pub length-count : (k n : ℕ) → length (countFrom k n) ≡ n
@@ -86,26 +127,26 @@ length-count k (suc n) = ap suc (length-count (suc k) n)
 
 -- ---- what reads a schema gives such tokens
 
-group-width : (o : Opening) (t : Token) → t .kind ≡ groupKind o → memberWidth t ≡ t .extent
-unfolding memberWidth if_then_else_
-group-width o t e = let s : OfSchema (t .kind) = rw e (group-kind o) in rw (s .not-key)
-
 pub members-measured : {k due : Bool} {f : Forest} → Members k due f → Measured f
-unfolding totalWidth
+unfolding totalWidth memberWidth isKind if_then_else_
 members-measured noMore = nothing
-members-measured (key i r) = wide zero-le nothing (members-measured r)
-members-measured (leaf i r) = wide zero-le nothing (members-measured r)
+members-measured (key {t = t} i r) =
+    let k : isKind leafKind (t .kind) ≡ false = rw (i .kind-is) in
+    let w : totalWidth none ≡ memberWidth t = rw (i .kind-is) in
+    wide k w nothing (members-measured r)
+members-measured (leaf i r) = ofLeaf (i .kind-is) (members-measured r)
 members-measured (group o {t = t} {below = below} i e u r) =
-    let s = group-width o t (i .kind-is) in
-    let h : totalWidth below ≤ memberWidth t = omega arith in
-    wide h (members-measured u) (members-measured r)
+    let k : isKind leafKind (t .kind) ≡ false = rw (i .kind-is) (group-no-leaf o) in
+    wide k (sym (member-width t (rw (i .kind-is) (group-kind o)) ∙ e)) (members-measured u) (members-measured r)
 
 pub below-measured : {f : Forest} → Measured f → Measured (belowFirst f)
 unfolding belowFirst
 below-measured nothing = nothing
-below-measured (wide h u r) = u
+below-measured (ofLeaf k r) = nothing
+below-measured (wide k h u r) = u
 
 pub below-narrower : {f : Forest} → Measured f → totalWidth (belowFirst f) ≤ totalWidth f
 unfolding belowFirst totalWidth
 below-narrower nothing = omega arith
-below-narrower (wide h u r) = omega arith
+below-narrower (ofLeaf k r) = omega arith
+below-narrower (wide k h u r) = omega arith

@@ -5,12 +5,13 @@ use mathlib.Core.List.{List, [], _∷_, _++_}
 use Prim.Native.Nat.{ℕ, zero, suc, _+_, _-_, _*_, _/_, _<_, _≤_}
 use native.Mathlib.Omega.{arith}
 use native.Mathlib.Nat.{zero-add, sub-zero, zero-sub, suc-sub-suc}
-use lib.ListN.{length, set, drop, length-append, length-replicate}
+use lib.ListN.{length, set, drop, length-replicate}
 use lib.Seq.{sets, set-comm, length-sets, sets-eq}
 use lib.Dec.{ltb}
 use borrow.Author.Tests.{lt-ltb}
 use Rattle.format.specs.Conditions.{if_then_else_}
 use Rattle.format.specs.Rows.{Row, layout, rowsIn, wordsOf, zeros, filled}
+use Rattle.format.proofs.RowWords.{length-layout, length-words}
 use Rattle.rows.specs.Row.{store}
 use Rattle.rows.specs.Overlay.{lay}
 
@@ -89,10 +90,6 @@ store-there : (ws : List ℕ) (i : ℕ) (r : Row) → (i + 1) * 8 ≤ length ws 
 unfolding store rowsIn if_then_else_
 store-there ws i r h = rw (lt-ltb i (length ws / 8) (omega arith))
 
-length-layout : (r : Row) → length (layout r) ≡ 8
-unfolding layout
-length-layout r = refl
-
 lay-there : (ws : List ℕ) (i : ℕ) (rs : List Row) → (i + length rs) * 8 ≤ length ws → lay ws i rs ≡ sets ws (i * 8) (wordsOf rs)
 unfolding lay wordsOf
 lay-there ws i [] h = refl
@@ -101,11 +98,6 @@ lay-there ws i (r ∷ rs) h =
     ∙ ap (λ t. sets t (suc i * 8) (wordsOf rs)) (store-there ws i r (omega arith))
     ∙ ap (λ k. sets (sets ws (i * 8) (layout r)) k (wordsOf rs)) (omega (arith, length-layout r))
     ∙ sets-append (layout r) (wordsOf rs) ws (i * 8)
-
-length-words : (rs : List Row) → length (wordsOf rs) ≡ length rs * 8
-unfolding wordsOf
-length-words [] = refl
-length-words (r ∷ rs) = length-append (layout r) (wordsOf rs) ∙ omega (arith, length-layout r, length-words rs)
 
 drop-zeros : (n l : ℕ) → drop n (zeros l) ≡ zeros (l - n)
 drop-zeros zero l = ap (λ k. zeros k) (sym (sub-zero l))
