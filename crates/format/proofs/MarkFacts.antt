@@ -7,7 +7,7 @@ use native.Mathlib.Omega.{arith}
 use lib.Dec.{eqb, ltb}
 use borrow.Author.Tests.{eqb-true, ltb-true}
 use Rattle.format.specs.Conditions.{if_then_else_, among, all}
-use Rattle.format.specs.Marks.{integers, isInteger, signedIntegers, isSigned, types, isType, isPlainLeaf, isLeaf, width, letterOf, 'S', 'T', 'Z'}
+use Rattle.format.specs.Marks.{integers, isInteger, signedIntegers, isSigned, types, isType, isPlainLeaf, isLeaf, width, letterOf, 'B', 'C', 'D', 'I', 'L', 'M', 'S', 'T', 'U', 'Z', 'd', 'h', 'i', 'l', 'm', 'u'}
 
 pub among-passes : (p : ℕ → Bool) (l : List ℕ) (x : ℕ) → all p l ≡ true → among l x ≡ true → p x ≡ true
 unfolding all among
@@ -81,3 +81,14 @@ unfolding isLeaf isPlainLeaf types integers all among
 letter-leaf word =
     let e : eqb (letterOf word) 'S' ≡ eqb word 'S' = sym (or-false _) ∙ letter-among ('S' ∷ []) word refl refl ∙ or-false _ in
     rw (letter-among ('T' ∷ 'Z' ∷ types) word refl refl, e) refl
+
+-- and so it has the mark's bytes
+pub letter-width : (word : ℕ) → width (letterOf word) ≡ width word
+unfolding width all
+letter-width word =
+    rw (
+      letter-among ('i' ∷ 'U' ∷ 'C' ∷ 'B' ∷ []) word refl refl,
+      letter-among ('I' ∷ 'u' ∷ 'h' ∷ []) word refl refl,
+      letter-among ('l' ∷ 'm' ∷ 'd' ∷ []) word refl refl,
+      letter-among ('L' ∷ 'M' ∷ 'D' ∷ []) word refl refl,
+    ) refl

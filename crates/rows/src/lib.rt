@@ -55,7 +55,8 @@ const NO_ROW: Row = Row {
 pub fn load(rows: &[u32], row: usize) -> Row
     ensures { λ r. ⌜ (row < rowsIn (now (rows .entry)) → rowOf r ≡ rowAt (now (rows .entry)) row) ⌝ }
 {
-    if rows.len() / 8 <= row {
+    let end = rows.len() / 8;
+    if end <= row {
         return NO_ROW;
     }
     let at = row * 8;

@@ -43,7 +43,7 @@ module _ (ws : List ℕ) (leafRow : ℕ) (c : Row) (here : ℕ) where
     -- it is the leaf's row
     pub pass-leaf : leafRow ≡ here → isLeafRow (rowAt ws here) ≡ true → Passes ws leafRow c here (Leaf here)
     unfolding passing if_then_else_ guard _>>=_ _>>_
-    pass-leaf h l inside after = rw (e, eq-eqb here leafRow (sym h), l) refl
+    pass-leaf h l = let g = goes .inside in ((λ inside after. rw (e, eq-eqb here leafRow (sym h), l) refl), sym h, omega arith)
 
     pub pass-no-leaf : leafRow ≡ here → isLeafRow (rowAt ws here) ≡ false → Passes ws leafRow c here (Refused rowsDontFit)
     unfolding passing if_then_else_ guard _>>=_ _>>_
@@ -100,7 +100,7 @@ module _ (ws : List ℕ) (leafRow container row : ℕ) where
 
       go : (r : Step) → Passes ws leafRow (rowAt ws container) here r → Steps ws leafRow container row r
       go (Refused n) p = λ fuel. on fuel ∙ p _ _
-      go (Leaf x) p = λ fuel. on fuel ∙ p _ _
+      go (Leaf x) p = let k = p .2 in ((λ fuel. on fuel ∙ p .0 _ _), p .1, omega arith)
       go (Inside x) p =
           let g = p .2 in
           let q = p .1 in
@@ -147,7 +147,7 @@ module _ (ws : List ℕ) (leafRow schema from : ℕ) where
 
     pub going-leaf : (x : ℕ) → Steps ws leafRow container row (Leaf x) → seek ws leafRow (length ws) schema from ≡ done (outermostOf top x)
     unfolding _>>=_
-    going-leaf x s = g .rest ∙ ap (through top) (s (g .steps))
+    going-leaf x s = g .rest ∙ ap (through top) (s .0 (g .steps))
 
     pub going-inside : (x : ℕ) → 0 < row → row < rowsIn ws → Steps ws leafRow container row (Inside x) → Going ws leafRow schema from x (x + 1) (outermostOf top x)
     going-inside x h k s = go (g .steps) (g .enough) (g .rest)
@@ -166,3 +166,9 @@ module _ (ws : List ℕ) (leafRow schema from : ℕ) where
             → Going ws leafRow schema from container x top
         go zero e r = absurd (omega arith)
         go (suc n) e r = let up = s .1 in record { steps = n; enough = omega arith; rest = r ∙ ap (through top) (s .0 (suc n)) }
+
+-- the outermost member is a row if those that were gone into are
+pub outermost-below : (top here many : ℕ) → top < many → here < many → outermostOf top here < many
+unfolding outermostOf
+outermost-below zero here many h k = k
+outermost-below (suc top) here many h k = h

@@ -12,7 +12,7 @@ ghost use Rattle.format.specs.Rows.{rowAt, rowsIn};
 ghost use Rattle.format.specs.Addresses.{seek as seekIn};
 ghost use Rattle.format.specs.Answers.{found};
 ghost use Rattle.rows.specs.Row.{rowOf};
-ghost use Rattle.ways.specs.Members.{memberFrom, outermostOf, Passes, Steps};
+ghost use Rattle.ways.specs.Members.{memberFrom, outermostOf, Passes, Steps, AreRows};
 
 // One member further: a refusal's number; the leaf's row; the member that holds it; or the row after a member that doesn't.
 pub enum Step {
@@ -89,7 +89,8 @@ fn outermost(top: usize, here: usize) -> usize
 // The field of a schema, from a row on, that is the leaf or holds it.
 pub fn field(rows: &[u32], leaf: usize, schema: usize, from: usize) -> Found
     requires { ⌜ (schema < rowsIn (now rows)) × (rowAt (now rows) schema .link ≤ rowsIn (now rows)) × (0 < from) ⌝ }
-    ensures { λ r. ⌜ found r ≡ seekIn (now (rows .entry)) leaf (length (now (rows .entry))) schema from ⌝ }
+    ensures is { λ r. ⌜ found r ≡ seekIn (now (rows .entry)) leaf (length (now (rows .entry))) schema from ⌝ }
+    ensures bounds { λ r. ⌜ AreRows (now (rows .entry)) leaf r ⌝ }
 {
     let mut container = schema;
     let mut row = from;
