@@ -1,13 +1,13 @@
 -- Facts about marks: a test that antt computes over a list of marks holds of every mark among them. Assumes nothing.
 use Prim.Native.Nat.{ℕ, _≤_, _<_}
-use mathlib.Core.Path.{_≡_, refl, subst, sym}
-use mathlib.Core.Bool.{Bool, true, false, _&&_, _||_, false≢true}
+use mathlib.Core.Path.{_≡_, refl, subst, sym, _∙_}
+use mathlib.Core.Bool.{Bool, true, false, _&&_, _||_, or-false, false≢true}
 use mathlib.Core.List.{List, [], _∷_}
 use native.Mathlib.Omega.{arith}
 use lib.Dec.{eqb, ltb}
 use borrow.Author.Tests.{eqb-true, ltb-true}
 use Rattle.format.specs.Conditions.{if_then_else_, among, all}
-use Rattle.format.specs.Marks.{integers, isInteger, signedIntegers, isSigned, types, isType, width}
+use Rattle.format.specs.Marks.{integers, isInteger, signedIntegers, isSigned, types, isType, isPlainLeaf, isLeaf, width, letterOf, 'B', 'C', 'D', 'I', 'L', 'M', 'S', 'T', 'U', 'Z', 'd', 'h', 'i', 'l', 'm', 'u'}
 
 pub among-passes : (p : ℕ → Bool) (l : List ℕ) (x : ℕ) → all p l ≡ true → among l x ≡ true → p x ≡ true
 unfolding all among
@@ -47,3 +47,48 @@ widest false false false false = omega arith
 pub width-few : (mark : ℕ) → width mark ≤ 8
 unfolding width
 width-few mark = widest (among _ mark) (among _ mark) (among _ mark) (among _ mark)
+
+-- what is not among marks is told so
+not-among : (l : List ℕ) (x : ℕ) → (among l x ≡ true → ⊥) → among l x ≡ false
+not-among l x c = go (among l x) refl
+  where
+    go : (b : Bool) → among l x ≡ b → among l x ≡ false
+    go true e = absurd (c e)
+    go false e = e
+
+-- a word stands for one of some marks exactly if it is that mark
+pub letter-among : (l : List ℕ) (word : ℕ) → all (ltb 0) l ≡ true → all (λ k. ltb k 256) l ≡ true → among l (letterOf word) ≡ among l word
+unfolding letterOf if_then_else_
+letter-among l word some few = go (ltb word 256) refl
+  where
+    go : (b : Bool) → ltb word 256 ≡ b → among l (if b then word else 0) ≡ among l word
+    go true e = refl
+    go false e =
+        not-among l 0 (λ h. false≢true (among-passes (ltb 0) l 0 some h))
+        ∙ sym (not-among l word (λ h. false≢true (sym e ∙ among-passes (λ k. ltb k 256) l word few h)))
+
+-- in each of the lists
+pub letter-type : (word : ℕ) → isType (letterOf word) ≡ isType word
+unfolding isType types integers all
+letter-type word = letter-among types word refl refl
+
+pub letter-integer : (word : ℕ) → isInteger (letterOf word) ≡ isInteger word
+unfolding isInteger integers all
+letter-integer word = letter-among integers word refl refl
+
+pub letter-leaf : (word : ℕ) → isLeaf (letterOf word) ≡ isLeaf word
+unfolding isLeaf isPlainLeaf types integers all among
+letter-leaf word =
+    let e : eqb (letterOf word) 'S' ≡ eqb word 'S' = sym (or-false _) ∙ letter-among ('S' ∷ []) word refl refl ∙ or-false _ in
+    rw (letter-among ('T' ∷ 'Z' ∷ types) word refl refl, e) refl
+
+-- and so it has the mark's bytes
+pub letter-width : (word : ℕ) → width (letterOf word) ≡ width word
+unfolding width all
+letter-width word =
+    rw (
+      letter-among ('i' ∷ 'U' ∷ 'C' ∷ 'B' ∷ []) word refl refl,
+      letter-among ('I' ∷ 'u' ∷ 'h' ∷ []) word refl refl,
+      letter-among ('l' ∷ 'm' ∷ 'd' ∷ []) word refl refl,
+      letter-among ('L' ∷ 'M' ∷ 'D' ∷ []) word refl refl,
+    ) refl

@@ -2,7 +2,7 @@
 use Prim.Native.Nat.{ℕ}
 use mathlib.Core.Bool.{Bool, true, false, _||_}
 use mathlib.Core.List.{List, [], _∷_, _++_}
-use lib.Dec.{eqb}
+use lib.Dec.{ltb, eqb}
 use Rattle.format.specs.Conditions.{if_then_else_, among}
 
 abbrev pub 'B' : ℕ
@@ -146,3 +146,7 @@ width mark =
 -- in a record `T` is 1 byte, and the other marks are as wide as ever
 unfoldable pub leafWidth : ℕ → ℕ
 leafWidth mark = if eqb mark 'T' then 1 else width mark
+
+-- the mark that a word stands for: 0, which is none, where it is no byte
+unfoldable pub letterOf : ℕ → ℕ
+letterOf word = if ltb word 256 then word else 0

@@ -1,4 +1,7 @@
 // The types of the public calls' answers. specs/Answers.antt says which number and values of 01 each case stands for.
+ghost use mathlib.Core.Path.{_≡_};
+ghost use Rattle.format.specs.Tokens.{kindNumber};
+ghost use Rattle.format.specs.Answers.{kindOf};
 
 // The reader's and the rewriter's answer: rows used or bytes written; or a refusal's number and place.
 pub enum Answer {
@@ -32,6 +35,28 @@ pub enum Kind {
     SchemaRecord,
     FixedArray,
     Dimension,
+}
+
+impl Kind {
+    // The number of a kind.
+    pub fn number(self) -> u32
+        ensures { λ r. ⌜ r ≡ kindNumber (kindOf self) ⌝ }
+    {
+        match self {
+            Kind::Scalar => 1,
+            Kind::Text => 2,
+            Kind::HighPrecision => 3,
+            Kind::Key => 4,
+            Kind::Array => 5,
+            Kind::Object => 6,
+            Kind::Packed => 7,
+            Kind::Table => 8,
+            Kind::Leaf => 9,
+            Kind::SchemaRecord => 10,
+            Kind::FixedArray => 11,
+            Kind::Dimension => 12,
+        }
+    }
 }
 
 // A scalar's value. No f32 or f64 keeps a NaN's bits, so these have cases of their own.

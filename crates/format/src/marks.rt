@@ -1,6 +1,6 @@
 // The marks. The bytes that go with a mark are said once, in `Mark::traits`, and used by all.
 ghost use mathlib.Core.Path.{_≡_};
-ghost use Rattle.format.specs.Marks.{openingOf, opens, closes, isInteger, isSigned, isType, isScalar, isPlainLeaf, width, leafWidth};
+ghost use Rattle.format.specs.Marks.{openingOf, opens, closes, isInteger, isSigned, isType, isScalar, isPlainLeaf, isLeaf, width, leafWidth, letterOf};
 ghost use Rattle.format.specs.Traits.{traitsOf};
 
 // The letters.
@@ -232,6 +232,16 @@ impl Mark {
 
     pub const OBJECT_END: Mark = Mark(OBJECT_END);
 
+    // The mark that a word of a row stands for; 0, which is none, where the word is no byte.
+    pub fn of(word: u32) -> Mark
+        ensures { λ r. ⌜ (r .0) ≡ letterOf word ⌝ }
+    {
+        if word < 256 {
+            return Mark(word as u8);
+        }
+        Mark(0)
+    }
+
     pub fn traits(self) -> Traits
         ensures { λ r. ⌜ r ≡ traitsOf (self .0) ⌝ }
     {
@@ -313,6 +323,17 @@ impl Mark {
             return true;
         }
         self.is_type()
+    }
+
+    // A schema leaf's mark.
+    pub fn is_leaf(self) -> bool
+        ensures { λ r. ⌜ r ≡ isLeaf (self .0) ⌝ }
+    {
+        let m = self.0;
+        if self.is_plain_leaf() {
+            return true;
+        }
+        m == TEXT
     }
 }
 

@@ -2,7 +2,7 @@
 ghost use mathlib.Core.Path.{_≡_};
 ghost use Prim.Native.Nat.{_<_, _^_};
 ghost use lib.ListN.{length};
-ghost use Rattle.format.specs.Rows.{rowsIn, word as wordIn, zeros};
+ghost use Rattle.format.specs.Rows.{rowsIn, rowAt, word as wordIn, zeros};
 ghost use Rattle.rows.specs.Row.{rowOf, store as storeIn};
 
 // A row: its words by name, in their order.
@@ -37,6 +37,39 @@ pub fn word(rows: &[u32], row: usize, k: usize) -> usize
         return 0;
     }
     rows[at + k] as usize
+}
+
+// No row: every word is 0.
+const NO_ROW: Row = Row {
+    kind: 0,
+    mark: 0,
+    first: 0,
+    payload: 0,
+    extent: 0,
+    count: 0,
+    link: 0,
+    order: 0,
+};
+
+// A row of the table, whole; no row past the table's last.
+pub fn load(rows: &[u32], row: usize) -> Row
+    ensures { λ r. ⌜ (row < rowsIn (now (rows .entry)) → rowOf r ≡ rowAt (now (rows .entry)) row) ⌝ }
+{
+    let end = rows.len() / 8;
+    if end <= row {
+        return NO_ROW;
+    }
+    let at = row * 8;
+    Row {
+        kind: rows[at],
+        mark: rows[at + 1],
+        first: rows[at + 2],
+        payload: rows[at + 3],
+        extent: rows[at + 4],
+        count: rows[at + 5],
+        link: rows[at + 6],
+        order: rows[at + 7],
+    }
 }
 
 // Stores a row whole, or nothing where the table has no such row.

@@ -3,8 +3,6 @@ use format::answers::Kind;
 use rows::Row;
 use rows::store;
 ghost use mathlib.Core.Path.{_≡_};
-ghost use Rattle.format.specs.Tokens.{kindNumber};
-ghost use Rattle.format.specs.Answers.{kindOf};
 ghost use Rattle.format.specs.Rows.{rowOf};
 ghost use Rattle.rows.specs.Row.{store as storeIn};
 ghost use Rattle.tokens.specs.Answers.{Narrow, tokenOf};
@@ -20,33 +18,13 @@ pub struct Entry {
     pub order: u32,
 }
 
-// The number of a kind.
-fn kind_number(kind: Kind) -> u32
-    ensures { λ r. ⌜ r ≡ kindNumber (kindOf kind) ⌝ }
-{
-    match kind {
-        Kind::Scalar => 1,
-        Kind::Text => 2,
-        Kind::HighPrecision => 3,
-        Kind::Key => 4,
-        Kind::Array => 5,
-        Kind::Object => 6,
-        Kind::Packed => 7,
-        Kind::Table => 8,
-        Kind::Leaf => 9,
-        Kind::SchemaRecord => 10,
-        Kind::FixedArray => 11,
-        Kind::Dimension => 12,
-    }
-}
-
 // Stores a token's row, with its link.
 pub fn put(rows: &mut [u32], row: usize, e: Entry, link: usize)
     requires { ⌜ Narrow e link ⌝ }
     ensures { λ _. ⌜ now (rows .exit) ≡ storeIn (now (rows .entry)) row (rowOf (tokenOf e) link) ⌝ }
 {
     let k = e.kind;
-    let kind = kind_number(k);
+    let kind = k.number();
     store(
         rows,
         row,

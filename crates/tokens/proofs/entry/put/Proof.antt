@@ -18,4 +18,4 @@ put-spec =
     (λ c. search needs)
     (λ c κs. search needs)
     (λ c. search needs)
-    (λ c. rw (← c .before .before .before .before .before .before .before .before .before .kind-number .ensures) (c .before .before .store .ensures)))
+    (λ c. rw (← c .before .before .before .before .before .before .before .before .before .number .ensures) (c .before .before .store .ensures)))

@@ -1,0 +1,5 @@
+// The slots that addresses name, in rows that may come from anywhere.
+pub mod calls;
+pub mod indexes;
+pub mod slots;
+mod sums;

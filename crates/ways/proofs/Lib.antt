@@ -1,0 +1,4 @@
+pub mod Letters
+pub mod Along
+pub mod Extents
+pub mod Fields

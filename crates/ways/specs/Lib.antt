@@ -1,0 +1,3 @@
+pub mod Dimensions
+pub mod Members
+pub mod Needs
