@@ -19,14 +19,14 @@ fn unmarked(s: Slot) -> Located
 }
 
 // The slot of a packed row and indexes.
-pub fn packed_slot(rows: &[u32], size: u32, row: usize, indexes: &[u32]) -> Located
+pub fn packed_slot(rows: &[u32], size: u32, row: usize, indexes: &[usize]) -> Located
     ensures { λ r. ⌜ located r ≡ firstAndWidth (packedSlot (now (rows .entry)) size row (now (indexes .entry))) ⌝ }
 {
     unmarked(packed(rows, size as usize, row, indexes))
 }
 
 // The slot of a table row, a leaf row and indexes.
-pub fn table_slot(rows: &[u32], size: u32, row: usize, leaf: usize, indexes: &[u32]) -> Located
+pub fn table_slot(rows: &[u32], size: u32, row: usize, leaf: usize, indexes: &[usize]) -> Located
     ensures { λ r. ⌜ located r ≡ firstAndWidth (tableSlot (now (rows .entry)) size row leaf (now (indexes .entry))) ⌝ }
 {
     unmarked(table(rows, size as usize, row, leaf, indexes))

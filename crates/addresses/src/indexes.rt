@@ -9,7 +9,7 @@ ghost use Rattle.format.specs.Indexes.{inRange, lastNumber, firstNumber, number
 ghost use Rattle.addresses.specs.Sums.{capped};
 
 // One index for each extent, below it.
-pub fn in_range(extents: &[u32], indexes: &[u32]) -> bool
+pub fn in_range(extents: &[u32], indexes: &[usize]) -> bool
     ensures { λ r. ⌜ r ≡ inRange (now (extents .entry)) (now (indexes .entry)) ⌝ }
 {
     if extents.len() != indexes.len() {
@@ -17,7 +17,7 @@ pub fn in_range(extents: &[u32], indexes: &[u32]) -> bool
     }
     let mut k = 0;
     while k < extents.len() {
-        if extents[k] <= indexes[k] {
+        if extents[k] as usize <= indexes[k] {
             return false;
         }
         k += 1;
@@ -26,14 +26,14 @@ pub fn in_range(extents: &[u32], indexes: &[u32]) -> bool
 }
 
 // A number with one more place: so many of the extent, and an index.
-fn longer(number: usize, extent: u32, index: u32) -> usize
+fn longer(number: usize, extent: u32, index: usize) -> usize
     ensures { λ r. ⌜ r ≡ capped (capped (number * extent) + index) ⌝ }
 {
-    plus(times(number, extent as usize), index as usize)
+    plus(times(number, extent as usize), index)
 }
 
 // The number of indexes in range, the last index moving fastest.
-fn last_fastest(extents: &[u32], indexes: &[u32]) -> usize
+fn last_fastest(extents: &[u32], indexes: &[usize]) -> usize
     requires { ⌜ inRange (now extents) (now indexes) ≡ true ⌝ }
     ensures { λ r. ⌜ r ≡ capped (lastNumber (now (extents .entry)) (now (indexes .entry))) ⌝ }
 {
@@ -47,7 +47,7 @@ fn last_fastest(extents: &[u32], indexes: &[u32]) -> usize
 }
 
 // The first index moving fastest.
-fn first_fastest(extents: &[u32], indexes: &[u32]) -> usize
+fn first_fastest(extents: &[u32], indexes: &[usize]) -> usize
     requires { ⌜ inRange (now extents) (now indexes) ≡ true ⌝ }
     ensures { λ r. ⌜ r ≡ capped (firstNumber (now (extents .entry)) (now (indexes .entry))) ⌝ }
 {
@@ -61,7 +61,7 @@ fn first_fastest(extents: &[u32], indexes: &[u32]) -> usize
 }
 
 // The number of indexes in range, by the order.
-pub fn number(order: u32, extents: &[u32], indexes: &[u32]) -> usize
+pub fn number(order: u32, extents: &[u32], indexes: &[usize]) -> usize
     requires { ⌜ inRange (now extents) (now indexes) ≡ true ⌝ }
     ensures { λ r. ⌜ r ≡ capped (numberIn order (now (extents .entry)) (now (indexes .entry))) ⌝ }
 {

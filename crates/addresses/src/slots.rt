@@ -61,7 +61,7 @@ fn start(from: usize, number: usize, each: usize, offset: u32) -> usize
 }
 
 // The position that indexes have in a container, whose dimensions stand from a row on.
-fn positioned(rows: &[u32], container: usize, from: usize, indexes: &[u32]) -> Position
+fn positioned(rows: &[u32], container: usize, from: usize, indexes: &[usize]) -> Position
     requires { ⌜ (container < rowsIn (now rows)) × (rowAt (now rows) container .link ≤ rowsIn (now rows)) ⌝ }
     ensures { λ r. ⌜ Positions (now (rows .entry)) container from (now (indexes .entry)) r ⌝ }
 {
@@ -80,7 +80,7 @@ fn positioned(rows: &[u32], container: usize, from: usize, indexes: &[u32]) -> P
 }
 
 // A packed row and indexes.
-pub fn packed(rows: &[u32], size: usize, row: usize, indexes: &[u32]) -> Slot
+pub fn packed(rows: &[u32], size: usize, row: usize, indexes: &[usize]) -> Slot
     requires { ⌜ size < 2 ^ 63 ⌝ }
     ensures { λ r. ⌜ slotOf r ≡ Addresses.packedSlot (now (rows .entry)) size row (now (indexes .entry)) ⌝ }
 {
@@ -127,7 +127,7 @@ fn in_record(
 }
 
 // A table row, a leaf row and indexes.
-pub fn table(rows: &[u32], size: usize, row: usize, leaf: usize, indexes: &[u32]) -> Slot
+pub fn table(rows: &[u32], size: usize, row: usize, leaf: usize, indexes: &[usize]) -> Slot
     requires { ⌜ size < 2 ^ 63 ⌝ }
     ensures { λ r. ⌜ slotOf r ≡ Addresses.tableSlot (now (rows .entry)) size row leaf (now (indexes .entry)) ⌝ }
 {

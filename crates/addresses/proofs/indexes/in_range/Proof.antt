@@ -25,6 +25,7 @@ in-range-spec =
     (λ c. (omega arith, refl))
     (λ c. search needs)
     (λ c. c .before .loop-test .taken)
+    (λ c. omega (arith, c .shared-slice-known .given (c .before .before .loop .k)))
     (λ c. search needs)
     (λ c. omega (arith, c .before .before .loop-test .taken, c .before .before .before .before .if1 .left))
     (λ c. sym (c .before .before .before .before .loop .inv .1 ∙ range-off _ _ _ (c .before .before .before .loop-test .taken) (omega (arith, c .before .before .before .loop-test .taken, c .before .before .before .before .before .if1 .left)) (c .if2 .taken)))
