@@ -3,3 +3,5 @@ pub mod Noops
 pub mod MarkFacts
 pub mod Little
 pub mod IntegerCases
+pub mod Parts
+pub mod SameBytes

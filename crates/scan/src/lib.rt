@@ -1,4 +1,5 @@
-// The leaves that look at bytes: integers, `N`, text, JSON numbers, and the content under a mark.
+// The leaves that look at bytes: places, integers, `N`, text, JSON numbers, and the content under a mark.
+pub mod bytes;
 pub mod content;
 pub mod integers;
 pub mod json;
