@@ -7,7 +7,7 @@ use rows::load;
 ghost use mathlib.Core.Path.{_≡_};
 ghost use Rattle.format.specs.Values.{valueAtRow};
 ghost use Rattle.format.specs.Answers.{valued};
-ghost use Rattle.values.specs.Due.{NansApart};
+ghost use Rattle.values.specs.Answers.{NansApart};
 
 // The value at a row of kind 1, in any words; or 12.
 pub fn value_at_row(message: &[u8], rows: &[u32], row: usize) -> Valued

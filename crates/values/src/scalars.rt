@@ -26,7 +26,8 @@ ghost use Rattle.format.specs.Marks.{isSigned, isScalar, width, leafWidth, 'T'}
 ghost use Rattle.format.specs.Values as Values;
 ghost use Rattle.format.specs.Values.{twosComplement, scalarAt};
 ghost use Rattle.format.specs.Answers.{kindOf, valueOf, nanApart, valued};
-ghost use Rattle.values.specs.Due.{due as dueOf, NansApart};
+ghost use Rattle.values.specs.Due.{due as dueOf};
+ghost use Rattle.values.specs.Answers.{NansApart};
 
 // The number n under a signed mark, in two's complement.
 fn signed(mark: Mark, n: u64) -> i64
