@@ -5,3 +5,5 @@ pub mod Little
 pub mod IntegerCases
 pub mod Forests
 pub mod RowWords
+pub mod Parts
+pub mod SameBytes

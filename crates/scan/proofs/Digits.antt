@@ -57,7 +57,8 @@ module _ (m : List ℕ) (at : ℕ) where
 
 -- ---- the sign
 
-leb-same : (a b c d : ℕ) → (a ≤ b) ↔ (c ≤ d) → leb a b ≡ leb c d
+-- two comparisons that say the same answer the same
+pub leb-same : (a b c d : ℕ) → (a ≤ b) ↔ (c ≤ d) → leb a b ≡ leb c d
 leb-same a b c d e = go (leb a b) (leb c d) refl refl
   where
     go : (x y : Bool) → leb a b ≡ x → leb c d ≡ y → leb a b ≡ leb c d

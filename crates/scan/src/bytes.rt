@@ -1,6 +1,7 @@
-// The byte at a place.
+// Bytes of a message by place and number.
 ghost use mathlib.Core.Path.{_≡_};
-ghost use lib.ListN.{getD};
+ghost use lib.ListN.{length, getD};
+ghost use Rattle.format.specs.Bytes.{within as withinBytes};
 ghost use Rattle.scan.specs.Stands.{stands as standsIn};
 
 // The byte at a place; 0 where there is none.
@@ -21,4 +22,14 @@ pub fn stands(message: &[u8], at: usize, mark: u8) -> bool
         return false;
     }
     message[at] == mark
+}
+
+// Whether the n bytes from `start` on lie inside the message, in whole numbers.
+pub fn within(message: &[u8], start: usize, n: usize) -> bool
+    ensures { λ r. ⌜ r ≡ withinBytes (length (now (message .entry))) start n ⌝ }
+{
+    if message.len() < start {
+        return false;
+    }
+    n <= message.len() - start
 }
