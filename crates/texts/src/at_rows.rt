@@ -1,4 +1,5 @@
 // Text at a row.
+use crate::parts::part_at;
 use format::answers::Located;
 use format::marks::HIGH_PRECISION;
 use format::marks::TEXT;
@@ -51,11 +52,5 @@ pub fn text_at_row<'a>(message: &'a [u8], rows: &[u32], row: usize) -> &'a [u8]
     ensures is { λ r. ⌜ now r ≡ part (now (message .entry)) (textAtRow (now (message .entry)) (now (rows .entry)) row) ⌝ }
     ensures here { λ r. ⌜ r .ptr ≡ pointer (message .entry .ptr) (textAtRow (now (message .entry)) (now (rows .entry)) row) ⌝ }
 {
-    match number_at_row(message, rows, row) {
-        Located::Refused(_) => &message[..0],
-        Located::At(first, wide) => {
-            let end = first + wide;
-            &message[first..end]
-        }
-    }
+    part_at(message, number_at_row(message, rows, row))
 }
