@@ -3,3 +3,4 @@ pub mod Noops
 pub mod MarkFacts
 pub mod Little
 pub mod IntegerCases
+pub mod Products

@@ -7,9 +7,9 @@ mod integers;
 mod machine;
 mod numbers;
 mod payloads;
-mod schemas;
+mod schema;
 mod table;
-mod tokens;
+mod token;
 mod values;
 mod vectors;
 
@@ -39,14 +39,14 @@ fn header_step(
 ) -> Machine {
     let task = f.task;
     match task {
-        frames::FIELD => schemas::field(message, rows, frames, m, f),
-        frames::KIND => schemas::field_kind(message, rows, frames, m, f),
-        frames::FIXED => schemas::fixed(message, frames, m, f),
-        frames::ELEMENT => schemas::element(message, rows, frames, m, f),
+        frames::FIELD => schema::field(message, rows, frames, m, f),
+        frames::KIND => schema::field_kind(message, rows, frames, m, f),
+        frames::FIXED => schema::fixed(message, frames, m, f),
+        frames::ELEMENT => schema::element(message, rows, frames, m, f),
         frames::OUTER => vectors::outer(message, frames, m, f),
         frames::VECTOR => vectors::own(message, frames, m, f),
         frames::VECTOR_TYPE => vectors::type_mark(message, frames, m, f),
-        frames::VECTOR_HASH => vectors::hash(message, frames, m, f),
+        frames::VECTOR_HASH => values::hash(message, frames, m, f, frames::VECTOR_COUNT),
         frames::VECTOR_COUNT => vectors::count(message, frames, m, f),
         _ => vectors::dimension(message, rows, frames, m, f),
     }
@@ -61,7 +61,7 @@ fn step(message: &[u8], rows: &mut [u32], frames: &mut [u32], m: Machine) -> Mac
         frames::AFTER => values::after_value(message, m),
         frames::HEADER => values::header(message, frames, m, f),
         frames::TYPE => values::type_mark(message, frames, m, f),
-        frames::HASH => values::hash(message, frames, m, f),
+        frames::HASH => values::hash(message, frames, m, f, frames::COUNT),
         frames::COUNT => values::count(message, frames, m, f),
         frames::MEMBER => values::member(message, rows, frames, m, f),
         frames::VALUE => values::member_value(message, rows, frames, m, f),
@@ -81,9 +81,10 @@ fn run(message: &[u8], rows: &mut [u32], frames: &mut [u32], start: Machine) -> 
     m
 }
 
-// What the machine ended with; rows that it didn't fill are zero, on refusal all.
+// What the machine ended with; rows that it didn't fill are zero, on refusal all. Were a frame still open, the steps would not have
+// been enough: that would show as a refusal of no number.
 fn answer(rows: &mut [u32], m: Machine) -> Answer {
-    if 0 < m.number {
+    if 0 < m.number || 0 < m.open {
         table::clear(rows, 0);
         return Answer::Refused(m.number, m.place as usize);
     }

@@ -10,9 +10,9 @@ use crate::integers::integer;
 use crate::machine::Machine;
 use crate::numbers::difference;
 use crate::numbers::sum;
-use crate::schemas;
+use crate::schema;
 use crate::table;
-use crate::tokens;
+use crate::token;
 use crate::vectors;
 
 // The most levels of values, the outermost container being 1.
@@ -43,13 +43,13 @@ fn open(frames: &mut [u32], m: Machine, mark: u8) -> Machine {
 fn value(message: &[u8], rows: &mut [u32], frames: &mut [u32], m: Machine) -> Machine {
     let mark = byte(message, m.at);
     match mark {
-        b'S' => tokens::text(message, rows, m, 2),
-        b'H' => tokens::text(message, rows, m, 3),
+        b'S' => token::text(message, rows, m, 2),
+        b'H' => token::text(message, rows, m, 3),
         b'[' => open(frames, m, mark),
         b'{' => open(frames, m, mark),
         _ => {
             if is_scalar(mark) {
-                return tokens::scalar(message, rows, m);
+                return token::scalar(message, rows, m);
             }
             m.unexpected()
         }
@@ -113,15 +113,15 @@ pub fn type_mark(message: &[u8], frames: &mut [u32], m: Machine, f: Frame) -> Ma
     frames::keep(frames, m, typed);
     let mut begun = m;
     begun.offset = 0;
-    schemas::open(frames, begun, frames::FIELD, mark)
+    schema::open(frames, begun, frames::FIELD, mark)
 }
 
-// After a type: `#`.
-pub fn hash(message: &[u8], frames: &mut [u32], m: Machine, f: Frame) -> Machine {
+// After a type: `#`, and then a count.
+pub fn hash(message: &[u8], frames: &mut [u32], m: Machine, f: Frame, count: u32) -> Machine {
     if byte(message, m.at) != b'#' {
         return m.unexpected();
     }
-    frames::keep(frames, m, f.turned(frames::COUNT));
+    frames::keep(frames, m, f.turned(count));
     m.past(1)
 }
 
@@ -207,7 +207,7 @@ pub fn member(
         return value(message, rows, frames, here);
     }
     frames::keep(frames, m, f.counted().turned(frames::VALUE));
-    tokens::key(message, rows, here)
+    token::key(message, rows, here)
 }
 
 // The value of an object's member, after its key.
@@ -220,7 +220,7 @@ pub fn member_value(
 ) -> Machine {
     frames::keep(frames, m, f.turned(frames::MEMBER));
     if f.element != 0 {
-        return tokens::unmarked(message, rows, m, f.element);
+        return token::unmarked(message, rows, m, f.element);
     }
     value(message, rows, frames, past_noops(message, m))
 }

@@ -5,7 +5,7 @@ use crate::frames;
 use crate::frames::Frame;
 use crate::integers::integer;
 use crate::machine::Machine;
-use crate::tokens;
+use crate::token;
 
 // The most dimensions.
 const DIMENSIONS: u32 = 8;
@@ -59,15 +59,6 @@ pub fn type_mark(message: &[u8], frames: &mut [u32], m: Machine, f: Frame) -> Ma
     m.past(1)
 }
 
-// After the vector's type: `#`.
-pub fn hash(message: &[u8], frames: &mut [u32], m: Machine, f: Frame) -> Machine {
-    if byte(message, m.at) != b'#' {
-        return m.unexpected();
-    }
-    frames::keep(frames, m, f.turned(frames::VECTOR_COUNT));
-    m.past(1)
-}
-
 // After the vector's `#`: how many dimensions.
 pub fn count(message: &[u8], frames: &mut [u32], m: Machine, f: Frame) -> Machine {
     let after = integer(message, m);
@@ -97,9 +88,9 @@ fn close(message: &[u8], m: Machine) -> Machine {
 // One dimension, by the vector's form.
 fn one(message: &[u8], rows: &mut [u32], m: Machine, f: Frame) -> Machine {
     if f.element == 0 {
-        return tokens::marked_dimension(message, rows, m);
+        return token::marked_dimension(message, rows, m);
     }
-    tokens::bare_dimension(message, rows, m, f.element)
+    token::bare_dimension(message, rows, m, f.element)
 }
 
 // A dimension, or the vector's end.

@@ -10,8 +10,8 @@ use crate::machine::Machine;
 use crate::numbers::difference;
 use crate::numbers::sum;
 use crate::table;
-use crate::tokens;
-use crate::tokens::Token;
+use crate::token;
+use crate::token::Entry;
 
 // The most levels, the outer schema being 1.
 const LEVELS: u32 = 8;
@@ -65,7 +65,7 @@ pub fn field(
         return close(rows, m, f);
     }
     frames::keep(frames, m, f.counted().turned(frames::KIND));
-    tokens::key(message, rows, m)
+    token::key(message, rows, m)
 }
 
 // A field's kind.
@@ -113,10 +113,10 @@ fn leaf(rows: &mut [u32], m: Machine, mark: u8, first: u32, bytes: u32) -> Machi
 
 // Stores a leaf in the next row.
 fn take_leaf(rows: &mut [u32], m: Machine, mark: u8, first: u32, bytes: u32) -> Machine {
-    tokens::take_row(
+    token::take_row(
         rows,
         m,
-        Token {
+        Entry {
             kind: 9,
             mark: mark,
             first: first,

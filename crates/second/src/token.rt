@@ -11,7 +11,7 @@ use crate::numbers::sum;
 use crate::table;
 
 // What a row says of a token that holds no others.
-pub struct Token {
+pub struct Entry {
     pub kind: u32,
     pub mark: u8,
     pub first: u32,
@@ -21,7 +21,7 @@ pub struct Token {
 }
 
 // Stores the token in the next row.
-pub fn take_row(rows: &mut [u32], m: Machine, t: Token) -> Machine {
+pub fn take_row(rows: &mut [u32], m: Machine, t: Entry) -> Machine {
     let mut after = m;
     let mark = t.mark as u32;
     let link = sum(m.row, 1);
@@ -50,7 +50,7 @@ fn payload(message: &[u8], rows: &mut [u32], m: Machine, mark: u8, first: u32) -
     take_row(
         rows,
         after,
-        Token {
+        Entry {
             kind: 1,
             mark: mark,
             first: first,
@@ -96,7 +96,7 @@ fn characters(
     take_row(
         rows,
         after,
-        Token {
+        Entry {
             kind: kind,
             mark: mark,
             first: first,
@@ -149,7 +149,7 @@ fn dimension(message: &[u8], rows: &mut [u32], m: Machine, mark: u8, first: u32)
     take_row(
         rows,
         after,
-        Token {
+        Entry {
             kind: 12,
             mark: mark,
             first: first,
