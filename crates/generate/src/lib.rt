@@ -80,7 +80,7 @@ pub fn message(number: u64, buffer: &mut [u8]) -> usize
 }
 
 // The words to be lent for message so and so, of a length: most often eight for each byte and up to seven more; else few for the
-// length, or few.
+// length, few, or about as many as the deepest messages need.
 pub fn words(number: u64, length: usize) -> usize {
     let pen = Pen::new(number ^ 0x0F0F_0000_0000).draw(8);
     let bytes = small(length);
@@ -89,6 +89,9 @@ pub fn words(number: u64, length: usize) -> usize {
     }
     if pen.value == 1 {
         return pen.draw(330).value as usize;
+    }
+    if pen.value == 2 {
+        return pen.draw(128).value as usize + 264;
     }
     pen.draw(8).value as usize + bytes as usize * 8
 }

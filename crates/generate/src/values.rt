@@ -109,6 +109,18 @@ fn members(pen: Pen) -> Pen {
     drawn
 }
 
+// Draws a form: if more are to be opened, most often an array's, which needs fewer rows.
+fn drawn_form(pen: Pen) -> Pen {
+    let mut drawn = pen.draw(8);
+    let choice = drawn.value % 8;
+    drawn.value = if pen.nest == 0 || choice < 2 {
+        choice % 4
+    } else {
+        choice % 2 * COUNTED_ARRAY
+    };
+    drawn
+}
+
 // Opens an array or an object of a form, with so many members.
 fn opened(buffer: &mut [u8], stack: &mut [u32], pen: Pen, form: u32, members: u32) -> Pen {
     set(stack, pen.open, 0, form);
@@ -121,7 +133,7 @@ fn opened(buffer: &mut [u8], stack: &mut [u32], pen: Pen, form: u32, members: u3
 
 // Opens an array or an object, with its count if it has one.
 fn open(buffer: &mut [u8], stack: &mut [u32], pen: Pen) -> Pen {
-    let form = pen.draw(4);
+    let form = drawn_form(pen);
     let many = members(form);
     let after = opened(buffer, stack, many, form.value, many.value);
     if form.value < COUNTED_ARRAY {
