@@ -1,0 +1,17 @@
+// Runs the two readers on the same messages, which are made by chance and always the same, and compares number, place, rows used and
+// every lent word. Lists where they differ, and what the messages were.
+mod answers;
+mod buffers;
+mod runs;
+mod show;
+mod tally;
+
+fn main() {
+    let mut counts = buffers::counts();
+    let mut message = buffers::message();
+    let mut first = buffers::rows();
+    let mut other = buffers::rows();
+    runs::all(&mut message, &mut first, &mut other, &mut counts);
+    runs::long(&mut first, &mut other, &mut counts);
+    show::summary(&counts);
+}
