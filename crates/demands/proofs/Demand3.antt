@@ -15,7 +15,7 @@ use Rattle.format.specs.Read.{read, readInto, rowsUsed}
 use Rattle.laws.specs.Places.{At, IsCut}
 use Rattle.storage.specs.Places.{Field, Filled}
 use Rattle.storage.specs.Addresses.{Address, inPacked, inTable, call, regionOf, InRange, isInRange}
-use Rattle.storage.proofs.Places.{read-fills, filled-rows}
+use Rattle.storage.proofs.Places.{field-at, read-fills, filled-rows}
 use Rattle.storage.proofs.Naming.{names-at}
 use Rattle.storage.proofs.Stored.{TableOf, tableOf, as-table}
 use Rattle.storage.proofs.Storage.{of-table}
@@ -36,7 +36,7 @@ module _ (m : List ℕ) (rowsLent : ℕ) (f : Forest) (accepted : read m rowsLen
       → List·Memᴰ s (storage row t (node schema members dims)) → Field (memberRow row) members fieldRow field (s .leafRow) l
       → (o : Opening) → t .mark ≡ opens o → ByFormula row t s (node schema members dims) (regionOf t s)
   unfolding opens
-  table-by-formula x k i y bracket e = rw (rows-formula m rowsLent f accepted x k i y e) (byRows k e y)
+  table-by-formula x k i y bracket e = rw (rows-formula m rowsLent f accepted x k i y e) (byRows k e (field-at y .1))
   table-by-formula x k i y brace e = rw (columns-formula m rowsLent f accepted x k i y e) (byColumns k e y)
 
   -- every slot stands where its formula says
@@ -130,12 +130,16 @@ module _ (m lent : List ℕ) (f : Forest) (accepted : readInto m lent ≡ done f
           rw words-same (reads-same m m′ (afterReading m lent) (slot .first) (slot .wide) (other .alike) b u);
     }
 
-  -- Demand 3.
-  pub demand3 : Demand3 m lent f
-  demand3 = record {
+  -- all of it
+  holds : Demand3 m lent f
+  holds = record {
     rows = filled-rows f (afterReading m lent) fills;
     answered-in-range = exactly m (rowsIn lent) f read-is (afterReading m lent) fills;
     verdicts = Addresses.verdict m (rowsIn lent) f read-is (afterReading m lent) fills;
     payloads = payload m (rowsIn lent) f read-is (afterReading m lent) fills;
     changes = unchanged;
   }
+
+-- Demand 3, of every message that is accepted, whatever the lent words.
+pub demand3 : (m lent : List ℕ) (f : Forest) → readInto m lent ≡ done f → Demand3 m lent f
+demand3 = holds

@@ -44,12 +44,12 @@ use Rattle.demands.specs.Reads.{afterReading, reads}
 abbrev pub position : Token → Forest → Slot (List ℕ) → ℕ
 position t below s = numberIn (t .order) (dimensionsOf t below) (s .element)
 
--- the region that 01's formula gives for a slot of the token at this row, given those below it: in a packed array; in a table by rows, P + rR + o; in
--- a table by columns, P + Nf + rw + (o − f), with the top-level field that is the slot's leaf or holds it
+-- the region that 01's formula gives for a slot of the token at this row, given those below it: in a packed array, P and the mark's width
+-- for each element before; in a table by rows, P + rR + o; by columns, P + Nf + rw + (o − f), with the top-level field of the slot's leaf
 pub data ByFormula (row : ℕ) (t : Token) (s : Slot (List ℕ)) : Forest → Region → Type 0 where
   inPackedArray : {below : Forest} → t .kind ≡ packed → ByFormula row t s below (inArray t (position t below s))
-  byRows : {schema field leaf : Token} {members dimensions : Forest} {fieldRow : ℕ} → t .kind ≡ table → t .mark ≡ '['
-      → Field (memberRow row) members fieldRow field (s .leafRow) leaf
+  byRows : {schema leaf : Token} {members dimensions under : Forest} → t .kind ≡ table → t .mark ≡ '['
+      → At (memberRow row) members (s .leafRow) leaf under
       → ByFormula row t s (node schema members dimensions) (inRow t schema leaf (position t (node schema members dimensions) s))
   byColumns : {schema field leaf : Token} {members dimensions : Forest} {fieldRow : ℕ} → t .kind ≡ table → t .mark ≡ left-brace
       → Field (memberRow row) members fieldRow field (s .leafRow) leaf
@@ -73,14 +73,17 @@ pub record Payload (m ws : List ℕ) (f : Forest) (row : ℕ) (t : Token) (below
 
 -- ---- two messages
 
--- another message of the same length that differs only inside one slot and is accepted too, with as many words lent
+-- any other message that is like the first but for one slot
 pub record Other (m lent : List ℕ) (slot : Region) (m′ lent′ : List ℕ) : Type 0 where
+  -- it is of the same length and differs only inside the slot
   pub alike : Alike m m′ (slot .first) (slot .wide)
+  -- as many words are lent for it, whatever they held
   pub as-many-lent : length lent′ ≡ length lent
+  -- and it is accepted too, with tokens of its own
   pub tokens : Forest
   pub accepted : readInto m′ lent′ ≡ done tokens
 
--- what is the same after a change in the slot of one address
+-- what is the same in both, where the slot is that of the address `a`
 pub record Unchanged (m lent : List ℕ) (a : Address) (m′ lent′ : List ℕ) : Type 0 where
   -- as many rows are used
   pub used-same : rowsUsed (readInto m′ lent′) ≡ rowsUsed (readInto m lent)
