@@ -32,7 +32,8 @@ others : {t : Token} {below after : Forest} → Measured (node t below after) �
 others (ofLeaf k r) = r
 others (wide k h u r) = r
 
-leaf-is : isKind leafKind leafKind ≡ true
+-- a leaf's kind is a leaf's
+pub leaf-is : isKind leafKind leafKind ≡ true
 unfolding isKind
 leaf-is = refl
 

@@ -9,22 +9,20 @@ use Rattle.format.specs.Marks.{Opening, bracket, brace, width}
 use Rattle.format.specs.Tokens.{Token, key as keyKind, leaf as leafKind, isKind, Forest, none, node, size}
 use Rattle.format.specs.Records.{memberWidth}
 use Rattle.format.specs.Storage.{Slot, leaves}
+use Rattle.format.proofs.Forests.{leaf-width}
 use Rattle.laws.specs.Places.{At, here, under, later}
 use Rattle.laws.proofs.Schemas.{groupKind}
-use Rattle.laws.proofs.Order.{leaf-kind, group-kind}
-use Rattle.laws.proofs.Slots.{member-width}
+use Rattle.laws.proofs.Order.{group-kind}
+use Rattle.laws.proofs.Slots.{leaf-is, member-width}
 use Rattle.storage.specs.Places.{Field, own, next}
 use Rattle.storage.proofs.KindNumbers.{key-no-leaf, group-no-leaf}
 use Rattle.storage.proofs.Places.{no-at}
 use Rattle.storage.proofs.Offsets.{Placed, placedNone, placedKey, placedLeaf, placedGroup}
 
--- what a member takes of a record: a key nothing, the others their width
+-- what a member takes of a record: a key nothing, a schema or fixed array its width, as a leaf does
 key-width : (t : Token) → t .kind ≡ keyKind → memberWidth t ≡ 0
 unfolding memberWidth isKind if_then_else_
 key-width t e = rw e
-
-leaf-width : (t : Token) → t .kind ≡ leafKind → memberWidth t ≡ t .extent
-leaf-width t e = member-width t (rw e leaf-kind)
 
 group-width : (o : Opening) (t : Token) → t .kind ≡ groupKind o → memberWidth t ≡ t .extent
 group-width o t e = member-width t (rw e (group-kind o))
@@ -136,7 +134,7 @@ alone (placedGroup o e p w u r) = placedGroup o e p w u placedNone
 
 pub rest : {offset : ℕ} {t : Token} {below after : Forest} → Placed offset (node t below after) → Placed (offset + memberWidth t) after
 rest {offset} (placedKey {t = t} {after = after} e r) = let q : offset ≡ offset + memberWidth t = omega (arith, key-width t e) in subst (λ x. Placed x after) q r
-rest {offset} (placedLeaf {t = t} e p r) = rw (leaf-width t e) r
+rest {offset} (placedLeaf {t = t} e p r) = rw (leaf-width t (rw e leaf-is)) r
 rest {offset} (placedGroup o {t = t} e p w u r) = rw (group-width o t e) r
 
 -- a member that is a leaf or holds one is no key
@@ -145,7 +143,7 @@ pub holds-leaf : {offset n leafRow : ℕ} {t l : Token} {below v : Forest} → P
 holds-leaf (placedKey e r) here k = absurd (key-no-leaf e k)
 holds-leaf (placedKey e r) (under x) k = absurd (no-at x)
 holds-leaf (placedKey e r) (later x) k = absurd (no-at x)
-holds-leaf (placedLeaf {t = t} e p r) x k = (p, leaf-width t e)
+holds-leaf (placedLeaf {t = t} e p r) x k = (p, leaf-width t (rw e leaf-is))
 holds-leaf (placedGroup o {t = t} e p w u r) x k = (p, group-width o t e)
 
 -- a leaf stands in its field

@@ -1,0 +1,1 @@
+// What was demanded of the whole, stated in one place and proved. No code.
