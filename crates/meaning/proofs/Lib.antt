@@ -1,0 +1,3 @@
+pub mod Equivalence
+pub mod Same
+pub mod Numbers
