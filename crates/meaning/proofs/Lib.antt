@@ -1,3 +1,5 @@
 pub mod Equivalence
 pub mod Same
 pub mod Numbers
+pub mod Known
+pub mod Accepted
