@@ -19,7 +19,7 @@ use Rattle.format.specs.Dimensions.{Shape}
 use Rattle.format.specs.Schemas as Schemas
 use Rattle.format.specs.Containers as Containers
 use Rattle.format.proofs.Forests.{members-append}
-use Rattle.laws.proofs.Schemas.{groupKind, Group}
+use Rattle.laws.proofs.Schemas.{groupKind, keyed, Members, Group}
 use Rattle.laws.proofs.Counts.{Shaped, highestOrder}
 use Rattle.meaning.proofs.Known.{Content}
 
@@ -92,8 +92,8 @@ module _ (m : List ℕ) where
     aLeaf : (levels mark at : ℕ) → isPlainLeaf mark ≡ true → Accepted one (kind levels) (Schemas.leaf mark at (leafWidth mark))
     aTextLeaf : (levels at n : ℕ) → n ≤ limit → Accepted one (kind levels) (Schemas.leaf 'S' at n)
     aKind : {levels : ℕ} (o : Opening) {f : Forest} → Accepted one (group levels o) f → Accepted one (kind levels) f
-    aGroup : (levels : ℕ) (o : Opening) (at : ℕ) {f g : Forest} → Accepted one (fields levels o) f → Accepted many (fields levels o) g
-        → Accepted one (group (suc levels) o) (Schemas.group (groupKind o) o at (f ⊕ g))
+    aGroup : (levels : ℕ) (o : Opening) (at : ℕ) {f g : Forest} → Members (keyed o) false (f ⊕ g) → Accepted one (fields levels o) f
+        → Accepted many (fields levels o) g → Accepted one (group (suc levels) o) (Schemas.group (groupKind o) o at (f ⊕ g))
     aTable : (levels : ℕ) (o : Opening) (at start row : ℕ) {s : Forest} (n : Shape) → Accepted one (group schemaLevels brace) s → Group brace s
         → totalWidth s ≤ recordLimit → Counted false n → Accepted many dimension (n .dimensions)
         → Filled start (n .many * totalWidth s) (records o (memberRow row) (belowFirst s) (below (n .many)))
@@ -124,5 +124,5 @@ module _ (m : List ℕ) where
   accepted-members (aLeaf _ _ _ _) = refl
   accepted-members (aTextLeaf _ _ _ _) = refl
   accepted-members (aKind o p) = accepted-members p
-  accepted-members (aGroup _ o at {f = f} {g = g} _ _) = group-counts o at (f ⊕ g)
+  accepted-members (aGroup _ o at {f = f} {g = g} _ _ _) = group-counts o at (f ⊕ g)
   accepted-members (aTable _ _ _ _ _ _ _ _ _ _ _ _) = refl

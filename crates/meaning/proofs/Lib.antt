@@ -3,3 +3,5 @@ pub mod Same
 pub mod Numbers
 pub mod Known
 pub mod Accepted
+pub mod Accepting
+pub mod Layouts
