@@ -5,3 +5,6 @@ pub mod Known
 pub mod Accepted
 pub mod Accepting
 pub mod Layouts
+pub mod Chains
+pub mod Scalars
+pub mod Lists
