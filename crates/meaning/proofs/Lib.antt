@@ -8,3 +8,5 @@ pub mod Layouts
 pub mod Chains
 pub mod Scalars
 pub mod Lists
+pub mod Vectors
+pub mod Payloads
