@@ -10,3 +10,5 @@ pub mod Scalars
 pub mod Lists
 pub mod Vectors
 pub mod Payloads
+pub mod Schemas
+pub mod Tables
