@@ -29,7 +29,7 @@ use Rattle.meaning.proofs.Known.{Content}
 use Rattle.meaning.proofs.Accepted.{Sort, value, key, kind, group, dimension, pair, spaced, Number, one, many, items, fields, weight, Filled, Counted, Accepted, stop, more, both, apart, aScalar, aText, aNumber, aKey, aContainer, aDimension, aPacked, aLeaf, aTextLeaf, aKind, aGroup, aTable}
 
 -- an answer is what it is
-self-law : {A : Type 0} (o : Outcome A) → Holds (Unit {0}) (λ a. o ≡ done a) o
+pub self-law : {A : Type 0} (o : Outcome A) → Holds (Unit {0}) (λ a. o ≡ done a) o
 self-law (fault n p) = refused λ _. tt
 self-law (done a) = holds refl
 

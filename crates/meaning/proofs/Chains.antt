@@ -6,7 +6,7 @@ use mathlib.Core.List.{List, [], _∷_, _++_, append-assoc, append-nil}
 use native.Mathlib.Omega.{arith}
 use lib.ListN.{length, length-append}
 use lib.Dec.{eqb}
-use borrow.Author.Tests.{eqb-true, eq-eqb}
+use borrow.Author.Tests.{eqb-true, eqb-false, eq-eqb}
 use Rattle.format.specs.Conditions.{if_then_else_, among}
 use Rattle.format.specs.Marks.{'N', '#', '$', ']', right-brace}
 use Rattle.format.specs.Tokens.{Token, isKind, key as keyKind, Forest, none, node, size, _⊕_, members}
@@ -63,10 +63,6 @@ differs bad b c t n = go (eqb b c) refl
     go true e = absurd (false≢true (sym n ∙ ap (among bad) (eqb-true b c e) ∙ t))
     go false e = refl
 
-pub not-noop : (b : ℕ) → among closers b ≡ false → b ≡ 'N' → ⊥
-unfolding closers among
-not-noop b t e = false≢true (sym t ∙ ap (among closers) e)
-
 module _ (m h : List ℕ) (most : ℕ) where
   -- these bytes are read, wherever they stand, as tokens that are the same, while there are at most so many rows
   abbrev pub Reads : Reader → List ℕ → Forest → Type 0
@@ -110,10 +106,12 @@ module _ (m h : List ℕ) (most : ℕ) where
   begun {at} o l e = subst (λ y. From h at (y ++ l)) (o .split) e
 
   -- `N` may stand before them, and does not
-  pub spaced-reading : {reader : Reader} {f : Forest} → Reading closers reader f → Reading closers (spaced h reader) f
-  spaced-reading {reader} p = record {
+  pub spaced-reading : {bad : List ℕ} {reader : Reader} {f : Forest} → among bad 'N' ≡ true → Reading bad reader f → Reading bad (spaced h reader) f
+  spaced-reading {bad} {reader} t p = record {
     begins = p .begins;
-    reads = λ at row l e s. spaced-known h reader row (begun (p .begins) l e) (not-noop _ (p .begins .fits)) (p .reads at row l e s);
+    reads = λ at row l e s.
+        let o = p .begins in
+        spaced-known h reader row (begun o l e) (eqb-false (o .head) 'N' (differs bad (o .head) 'N' t (o .fits))) (p .reads at row l e s);
   }
 
   -- a token, with those below it, as it is written

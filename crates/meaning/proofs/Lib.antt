@@ -12,3 +12,5 @@ pub mod Vectors
 pub mod Payloads
 pub mod Schemas
 pub mod Tables
+pub mod RoundTrip
+pub mod Rewriting

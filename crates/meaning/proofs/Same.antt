@@ -1,6 +1,6 @@
 -- Tokens of two messages that have the same meaning: so have their rows, and they are written alike. Assumes nothing.
 use Prim.Native.Nat.{ℕ, suc, _+_}
-use mathlib.Core.Path.{_≡_, refl, sym, ap, _∙_}
+use mathlib.Core.Path.{_≡_, refl, sym, ap, ap₂, _∙_}
 use mathlib.Core.Bool.{Bool, true, false, false≢true}
 use mathlib.Core.List.{List, [], _∷_, _++_, map, map-append}
 use native.Mathlib.Omega.{arith}
@@ -92,7 +92,7 @@ module _ (m h : List ℕ) where
   same-rows n nothing = refl
   same-rows n (one {t = t} {u = u} {below = b} {below′ = b′} {after = a} {after′ = a′} k s r) =
       let e : map (rowMeaning m) (rows (suc n) b ++ rows (suc n + size b) a) ≡ map (rowMeaning h) (rows (suc n) b′ ++ rows (suc n + size b) a′) =
-      rw (map-append, map-append, same-rows (suc n) s, same-rows (suc n + size b) r) refl in
+      map-append (rowMeaning m) (rows (suc n) b) _ ∙ ap₂ _++_ (same-rows (suc n) s) (same-rows (suc n + size b) r) ∙ sym (map-append (rowMeaning h) (rows (suc n) b′) _) in
       rw (same-size s) (λ i. alike-row t u (suc n + size b) k i ∷ e i)
 
   -- ---- what is counted of them
