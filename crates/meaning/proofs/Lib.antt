@@ -14,3 +14,4 @@ pub mod Schemas
 pub mod Tables
 pub mod RoundTrip
 pub mod Rewriting
+pub mod Canonical
