@@ -1,6 +1,6 @@
 -- What is known of the tokens of an accepted message: all that it takes to write them in house form and have them accepted again.
 -- Assumes nothing.
-use Prim.Native.Nat.{ℕ, zero, suc, _+_, _*_, _≤_}
+use Prim.Native.Nat.{ℕ, suc, _+_, _*_, _≤_}
 use mathlib.Core.Path.{_≡_, refl}
 use mathlib.Core.Bool.{Bool, true, false}
 use mathlib.Core.List.{List}
@@ -9,8 +9,8 @@ use lib.ListN.{length}
 use Rattle.format.specs.Conditions.{if_then_else_}
 use Rattle.format.specs.Outcome.{done}
 use Rattle.format.specs.Limits.{limit, recordLimit, schemaLevels}
-use Rattle.format.specs.Marks.{Opening, bracket, brace, opens, isType, isScalar, isInteger, isPlainLeaf, width, leafWidth, 'S', 'H'}
-use Rattle.format.specs.Tokens.{Token, scalar as scalarKind, text as textKind, highPrecision, key as keyKind, packed as packedKind, table as tableKind, dimension as dimensionKind, plainCount, isKind, Forest, none, node, alone, uncounted, _⊕_, belowFirst, members}
+use Rattle.format.specs.Marks.{Opening, bracket, brace, opens, isType, isScalar, isPlainLeaf, width, leafWidth, 'S', 'H'}
+use Rattle.format.specs.Tokens.{Token, scalar as scalarKind, text as textKind, highPrecision, key as keyKind, packed as packedKind, table as tableKind, dimension as dimensionKind, plainCount, isKind, Forest, none, alone, uncounted, _⊕_, belowFirst, members}
 use Rattle.format.specs.Records.{totalWidth, placed}
 use Rattle.format.specs.Indexes.{below}
 use Rattle.format.specs.Storage.{Slot, memberRow, elements, records}

@@ -9,8 +9,7 @@ use Rattle.format.specs.Conditions.{all, among}
 use Rattle.format.specs.Outcome.{Outcome, fault, done}
 use Rattle.format.specs.Limits.{limit, recordLimit, valueLevels, schemaLevels}
 use Rattle.format.specs.Marks.{Opening, bracket, brace, integers, types, isType, isScalar, 'S', 'H'}
-use Rattle.format.specs.Tokens.{text as textKind, highPrecision, Forest}
-use Rattle.format.specs.Bytes.{skip}
+use Rattle.format.specs.Tokens.{text as textKind, highPrecision}
 use Rattle.format.specs.Content.{content, payloadEnd}
 use Rattle.format.specs.Sequences as Sequences
 use Rattle.format.specs.Sequences.{Reader, _⨾_, repeat, until}
@@ -24,9 +23,9 @@ use Rattle.laws.proofs.Holds as Holds
 use Rattle.laws.proofs.Holds.{Holds, refused, holds, bind-law, then-law, if-law, seq-law, other, guard-law, any-law, weaken}
 use Rattle.laws.proofs.Schemas.{groupKind, keyed, Members, members-append, OneKind, Gives, key-gives, until-gives, kindBy-gives, nested-gives, tableSchema-gives}
 use Rattle.laws.proofs.Counts.{Shaped, highestOrder, shape-gives}
-use Rattle.laws.proofs.Bounds.{oneOf-law, reach-law, number-law, integer-law}
+use Rattle.laws.proofs.Bounds.{reach-law, number-law, integer-law}
 use Rattle.meaning.proofs.Known.{Content}
-use Rattle.meaning.proofs.Accepted.{Sort, value, key, kind, group, dimension, pair, spaced, Number, one, many, items, fields, weight, Filled, Counted, Accepted, stop, more, both, apart, aScalar, aText, aNumber, aKey, aContainer, aDimension, aPacked, aLeaf, aTextLeaf, aKind, aGroup, aTable}
+use Rattle.meaning.proofs.Accepted.{Sort, value, key, kind, group, dimension, pair, spaced, one, many, items, fields, weight, Accepted, stop, more, both, apart, aScalar, aText, aNumber, aKey, aContainer, aDimension, aPacked, aLeaf, aTextLeaf, aKind, aGroup, aTable}
 
 -- an answer is what it is
 pub self-law : {A : Type 0} (o : Outcome A) → Holds (Unit {0}) (λ a. o ≡ done a) o

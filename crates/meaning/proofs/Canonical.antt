@@ -2,7 +2,7 @@
 use Prim.Native.Nat.{ℕ, suc, _+_, _≤_}
 use mathlib.Core.Path.{_≡_, refl, sym, ap, subst, _∙_}
 use mathlib.Core.Bool.{Bool, true, false, false≢true}
-use mathlib.Core.List.{List, [], _∷_, _++_, map, map-append, head-eq-of-cons-eq, tail-eq-of-cons-eq}
+use mathlib.Core.List.{List, [], _++_, map, map-append, head-eq-of-cons-eq, tail-eq-of-cons-eq}
 use mathlib.Core.Logic.{_↔_}
 use native.Mathlib.Omega.{arith}
 use lib.ListN.{length, getD, take, drop, length-map}
@@ -11,8 +11,7 @@ use Rattle.format.specs.Conditions.{if_then_else_, among}
 use Rattle.format.specs.Outcome.{done}
 use Rattle.format.specs.Limits.{limit}
 use Rattle.format.specs.Tokens.{Kind, kindNumber, scalar, text, highPrecision, key, array, object, packed, table, leaf, schemaRecord, fixedArray, dimension, Token, Forest, none, node, size}
-use Rattle.format.specs.Rows.{Row, layout, rowOf, rows, allRows}
-use Rattle.format.specs.Bytes.{bytes}
+use Rattle.format.specs.Rows.{layout, rowOf, rows, allRows}
 use Rattle.format.specs.Read.{read}
 use Rattle.format.specs.HouseForm.{payloadOf, house}
 use Rattle.format.specs.SameMeaning.{free, kept, hasBytes, rowMeaning, SameMeaning}

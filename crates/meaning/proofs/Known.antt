@@ -1,7 +1,7 @@
 -- Reading that succeeds: a rule for each form of the definitions, where the bytes from a place on are known. Assumes nothing.
-use Prim.Native.Nat.{ℕ, zero, suc, _+_, _^_, _≤_, _<_}
+use Prim.Native.Nat.{ℕ, zero, suc, _+_, _≤_, _<_}
 use mathlib.Core.Path.{_≡_, refl, sym, ap, subst, _∙_}
-use mathlib.Core.Bool.{Bool, true, false, not, false≢true}
+use mathlib.Core.Bool.{Bool, true, false, not}
 use mathlib.Core.List.{List, [], _∷_, _++_}
 use native.Mathlib.Omega.{arith}
 use native.Mathlib.Nat.{add-zero}
@@ -10,9 +10,9 @@ use lib.Seq.{drop-drop, drop-append-seam, take-append-seam, getD-drop, take-take
 use lib.Dec.{leb, ltb}
 use borrow.Author.Tests.{lt-ltb, le-leb, not-true}
 use Rattle.format.specs.Conditions.{if_then_else_, among, all}
-use Rattle.format.specs.Outcome.{Outcome, fault, done, _>>=_, _>>_, guard}
+use Rattle.format.specs.Outcome.{Outcome, done, _>>=_, _>>_, guard}
 use Rattle.format.specs.Limits.{limit}
-use Rattle.format.specs.Refusals.{endsTooEarly, notAllowed, wrongContent, overLimit, wrongInteger, noRowLeft}
+use Rattle.format.specs.Refusals.{endsTooEarly, notAllowed, wrongContent, noRowLeft}
 use Rattle.format.specs.Marks.{isInteger, integers, isSigned, signedIntegers, width, 'N'}
 use Rattle.format.specs.Tokens.{Forest}
 use Rattle.format.specs.Bytes.{bytes, byte, oneOf, reach, little}
@@ -23,7 +23,7 @@ use Rattle.format.specs.Sequences.{Reader, rowLeft, spaced}
 use Rattle.format.proofs.Noops.{skip-here}
 use Rattle.format.proofs.IntegerCases.{number-done}
 use Rattle.format.proofs.Parts.{length-bytes}
-use Rattle.meaning.proofs.Numbers.{length-digits, little-digits, smallMarks, smallest-passes, smallest-holds}
+use Rattle.meaning.proofs.Numbers.{length-digits, little-digits, smallest-passes, smallest-holds}
 
 -- an answer that isn't a refusal, and of which P holds
 pub data Succeeds {A : Type 0} (P : A → Type 0) : Outcome A → Type 0 where

@@ -7,10 +7,10 @@ use native.Mathlib.Omega.{arith}
 use lib.ListN.{length}
 use Rattle.format.specs.Conditions.{if_then_else_, among}
 use Rattle.format.specs.Marks.{Opening, bracket, brace, width}
-use Rattle.format.specs.Tokens.{Kind, kindNumber, key as keyKind, leaf as leafKind, schemaRecord, fixedArray, Token, isKind, Forest, none, node, size, _⊕_, belowFirst}
+use Rattle.format.specs.Tokens.{Kind, kindNumber, key as keyKind, leaf as leafKind, schemaRecord, fixedArray, Token, isKind, Forest, none, node, _⊕_, belowFirst}
 use Rattle.format.specs.Records.{memberWidth, totalWidth, atOffset, placed}
 use Rattle.format.specs.Storage.{Slot, endToEnd, elements, leaves, byRows, byColumns, records}
-use Rattle.format.specs.HouseForm.{Written, whole, payloadOf, token, written, house}
+use Rattle.format.specs.HouseForm.{Written, whole, token, written, house}
 use Rattle.format.specs.SameMeaning.{free, hasBytes}
 use Rattle.laws.proofs.Schemas.{groupKind, Members, noMore, key, leaf, group, Group, grouped}
 use Rattle.meaning.proofs.Same.{Counts, Alike, Same, nothing, one}

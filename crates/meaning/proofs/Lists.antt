@@ -1,10 +1,9 @@
 -- Arrays and objects in house form, which are counted and untyped, are read again as the same. Assumes nothing.
-use Prim.Native.Nat.{ℕ, suc, _+_, _-_, _≤_}
+use Prim.Native.Nat.{ℕ, suc, _+_, _≤_}
 use mathlib.Core.Path.{_≡_, refl, sym, subst, _∙_}
-use mathlib.Core.Bool.{Bool, true, false, false≢true}
+use mathlib.Core.Bool.{true, false, false≢true}
 use mathlib.Core.List.{List, [], _∷_, _++_, append-assoc}
 use native.Mathlib.Omega.{arith}
-use lib.Dec.{eqb}
 use Rattle.format.specs.Conditions.{if_then_else_, among}
 use Rattle.format.specs.Limits.{limit}
 use Rattle.format.specs.Marks.{Opening, bracket, brace, opens, isScalar, integers, types, '#'}
@@ -14,7 +13,7 @@ use Rattle.format.specs.SameMeaning.{free, hasBytes}
 use Rattle.format.specs.Sequences.{Reader, spaced}
 use Rattle.format.specs.Containers as Containers
 use Rattle.format.specs.Read as Read
-use Rattle.meaning.proofs.Same.{Counts, Same, nothing, one, same-members}
+use Rattle.meaning.proofs.Same.{Same, nothing, one, same-members}
 use Rattle.meaning.proofs.Known.{Succeeds, succeeds, after, taken, passed, From, from-past, byte-known, row-known, integer-known}
 use Rattle.meaning.proofs.Chains.{closers, Reading, Chain, alone-reading, chain-repeat, members-few}
 

@@ -2,25 +2,24 @@
 -- same. Assumes nothing.
 use Prim.Native.Nat.{ℕ, suc, _+_, _*_, _≤_}
 use mathlib.Core.Path.{_≡_, refl, sym, ap, subst, _∙_}
-use mathlib.Core.Bool.{Bool, true, false, not}
+use mathlib.Core.Bool.{Bool, true, false}
 use mathlib.Core.List.{List, [], _∷_, _++_, append-assoc}
 use native.Mathlib.Omega.{arith}
-use lib.ListN.{length, take, drop}
-use lib.Dec.{leb, eqb}
+use lib.ListN.{take, drop}
+use lib.Dec.{eqb}
 use borrow.Author.Tests.{le-leb}
-use Rattle.format.specs.Conditions.{if_then_else_, among, all}
-use Rattle.format.specs.Outcome.{Outcome, fault, done, _>>=_, _>>_, guard}
+use Rattle.format.specs.Conditions.{among, all}
+use Rattle.format.specs.Outcome.{Outcome, done, _>>=_, _>>_, guard}
 use Rattle.format.specs.Limits.{limit}
 use Rattle.format.specs.Refusals.{wrongContent, overLimit}
 use Rattle.format.specs.Marks.{bracket, opens, isType, integers, types, width, '#', '$', '[', left-brace}
-use Rattle.format.specs.Tokens.{packed as packedKind, Forest, size}
+use Rattle.format.specs.Tokens.{packed as packedKind, size}
 use Rattle.format.specs.Indexes.{below}
 use Rattle.format.specs.Storage.{Slot, elements}
 use Rattle.format.specs.Bytes.{bytes, reach}
 use Rattle.format.specs.Content.{isContent, content, contents}
 use Rattle.format.specs.HouseForm.{shape, payloadOf, token, house}
 use Rattle.format.specs.SameMeaning.{hasBytes}
-use Rattle.format.specs.Sequences.{Reader}
 use Rattle.format.specs.Dimensions.{Shape}
 use Rattle.format.specs.Containers as Containers
 use Rattle.format.specs.Read as Read

@@ -1,20 +1,18 @@
 -- Writing an accepted message in house form and reading it again gives the same meaning; and rewriting it again changes nothing.
 -- Assumes nothing.
-use Prim.Native.Nat.{ℕ, suc, _≤_}
+use Prim.Native.Nat.{ℕ, _≤_}
 use mathlib.Core.Path.{_≡_, refl, sym, _∙_}
 use mathlib.Core.Bool.{true, false}
 use mathlib.Core.List.{List, [], _++_, append-nil}
 use native.Mathlib.Omega.{arith}
 use lib.ListN.{length}
-use lib.Dec.{leb, eqb}
 use borrow.Author.Tests.{le-leb, eq-eqb}
 use Rattle.format.specs.Conditions.{among}
 use Rattle.format.specs.Outcome.{done}
 use Rattle.format.specs.Limits.{limit, valueLevels}
-use Rattle.format.specs.Marks.{Opening, bracket, brace, 'N'}
+use Rattle.format.specs.Marks.{bracket, brace, 'N'}
 use Rattle.format.specs.Tokens.{Forest, size}
 use Rattle.format.specs.Rows.{allRows}
-use Rattle.format.specs.Bytes.{skip}
 use Rattle.format.specs.HouseForm.{house}
 use Rattle.format.specs.Sequences as Sequences
 use Rattle.format.specs.Sequences.{Reader, _⨾_}

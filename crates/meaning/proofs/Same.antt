@@ -4,11 +4,9 @@ use mathlib.Core.Path.{_≡_, refl, sym, ap, ap₂, _∙_}
 use mathlib.Core.Bool.{Bool, true, false, false≢true}
 use mathlib.Core.List.{List, [], _∷_, _++_, map, map-append}
 use native.Mathlib.Omega.{arith}
-use lib.Dec.{eqb}
 use Rattle.format.specs.Conditions.{if_then_else_, among}
-use Rattle.format.specs.Tokens.{Kind, kindNumber, scalar, text, highPrecision, key, array, object, packed, table, leaf, schemaRecord, fixedArray, dimension, Token, isKind, Forest, none, node, size, _⊕_, members, counts}
+use Rattle.format.specs.Tokens.{Kind, kindNumber, scalar, text, highPrecision, key, array, object, packed, table, leaf, schemaRecord, fixedArray, dimension, Token, Forest, none, node, size, _⊕_, members, counts}
 use Rattle.format.specs.Rows.{layout, rowOf, rows}
-use Rattle.format.specs.Bytes.{bytes}
 use Rattle.format.specs.HouseForm.{Written, whole, payloadOf, token, written, house}
 use Rattle.format.specs.SameMeaning.{free, kept, hasBytes, rowMeaning, SameMeaning}
 

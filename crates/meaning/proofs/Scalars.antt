@@ -1,15 +1,14 @@
 -- Scalars, texts, high-precision numbers and keys in house form are read again as the same. Assumes nothing.
-use Prim.Native.Nat.{ℕ, suc, _+_, _≤_, _<_}
-use mathlib.Core.Path.{_≡_, refl, sym, subst, _∙_}
+use Prim.Native.Nat.{ℕ, _≤_, _<_}
+use mathlib.Core.Path.{_≡_, refl, sym, subst}
 use mathlib.Core.Bool.{Bool, true, false, not, false≢true}
 use mathlib.Core.List.{List, [], _∷_, _++_, append-assoc}
 use native.Mathlib.Omega.{arith}
-use lib.Dec.{eqb}
 use borrow.Author.Tests.{not-true}
 use Rattle.format.specs.Conditions.{if_then_else_, among, all}
 use Rattle.format.specs.Limits.{limit}
-use Rattle.format.specs.Marks.{Opening, isScalar, integers, types, width, 'N', 'Z', 'T', 'F', 'S', 'H', '#', '$', ']', right-brace}
-use Rattle.format.specs.Tokens.{Kind, kindNumber, scalar, text, highPrecision, key, array, object, packed, table, leaf, schemaRecord, fixedArray, dimension, Token, Forest, none, node, alone, uncounted, size}
+use Rattle.format.specs.Marks.{Opening, isScalar, integers, types, width, 'Z', 'T', 'F', 'S', 'H'}
+use Rattle.format.specs.Tokens.{Kind, kindNumber, scalar, text, highPrecision, key, array, object, packed, table, leaf, schemaRecord, fixedArray, dimension, Forest, none, node, alone, uncounted, size}
 use Rattle.format.specs.Bytes.{bytes}
 use Rattle.format.specs.Integers.{smallest}
 use Rattle.format.specs.HouseForm.{smallInteger, payloadOf, token}
@@ -18,7 +17,7 @@ use Rattle.format.specs.Sequences.{Reader}
 use Rattle.format.specs.Scalars as Scalars
 use Rattle.format.specs.Read as Read
 use Rattle.format.proofs.MarkFacts.{among-passes}
-use Rattle.meaning.proofs.Same.{Counts, Alike, Same, nothing, one}
+use Rattle.meaning.proofs.Same.{Counts, Same, nothing, one}
 use Rattle.meaning.proofs.Numbers.{smallMarks, smallest-passes}
 use Rattle.meaning.proofs.Known.{Succeeds, succeeds, taken, passed, Content, From, from-past, byte-known, oneOf-known, row-known, number-known, integer-known, small-mark, payload-known}
 use Rattle.meaning.proofs.Chains.{closers, Begins, Reading, alone-reading}

@@ -4,18 +4,17 @@ use mathlib.Core.Path.{_≡_, refl, sym, ap, subst, _∙_}
 use mathlib.Core.Bool.{Bool, true, false, not, false≢true}
 use mathlib.Core.List.{List, [], _∷_, _++_, append-assoc}
 use native.Mathlib.Omega.{arith}
-use lib.ListN.{length}
 use lib.Dec.{eqb}
 use Rattle.format.specs.Conditions.{if_then_else_, among, all}
 use Rattle.format.specs.Limits.{limit}
 use Rattle.format.specs.Marks.{Opening, bracket, brace, opens, closes, isPlainLeaf, integers, types, leafWidth, 'S', 'T', 'Z', '$', '['}
-use Rattle.format.specs.Tokens.{kindNumber, leaf as leafKind, Forest, none, size, _⊕_}
+use Rattle.format.specs.Tokens.{kindNumber, Forest, size, _⊕_}
 use Rattle.format.specs.HouseForm.{smallInteger, token, written, whole, house}
 use Rattle.format.specs.SameMeaning.{hasBytes}
 use Rattle.format.specs.Sequences.{Reader, _⨾_}
 use Rattle.format.specs.Scalars as Scalars
 use Rattle.format.specs.Schemas as Schemas
-use Rattle.laws.proofs.Schemas.{groupKind, keyed, Members}
+use Rattle.laws.proofs.Schemas.{groupKind, Members}
 use Rattle.meaning.proofs.Same.{Same, nothing, one, same-members}
 use Rattle.meaning.proofs.Known.{Succeeds, succeeds, after, guard-known, taken, passed, From, from-past, byte-known, row-known, integer-known}
 use Rattle.meaning.proofs.Accepted.{group, Accepted, aGroup}

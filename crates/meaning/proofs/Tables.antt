@@ -1,16 +1,15 @@
 -- Tables in house form are read again as the same. Assumes nothing.
 use Prim.Native.Nat.{ℕ, suc, _+_, _*_, _≤_}
 use mathlib.Core.Path.{_≡_, refl, subst}
-use mathlib.Core.Bool.{true, false}
+use mathlib.Core.Bool.{false}
 use mathlib.Core.List.{List, [], _∷_, _++_, append-assoc}
 use native.Mathlib.Omega.{arith}
 use native.Mathlib.Nat.{mul-le-mul-left}
-use lib.ListN.{length}
 use borrow.Author.Tests.{le-leb}
 use Rattle.format.specs.Conditions.{among}
 use Rattle.format.specs.Limits.{limit, recordLimit, schemaLevels}
 use Rattle.format.specs.Refusals.{overLimit}
-use Rattle.format.specs.Marks.{Opening, bracket, brace, opens, '#', '$'}
+use Rattle.format.specs.Marks.{Opening, brace, opens, '#', '$'}
 use Rattle.format.specs.Tokens.{table as tableKind, Forest, size, _⊕_, belowFirst}
 use Rattle.format.specs.Records.{totalWidth, placed}
 use Rattle.format.specs.Indexes.{below}

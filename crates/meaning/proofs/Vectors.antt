@@ -1,19 +1,18 @@
 -- Counts and dimension vectors in house form are read again as the same. Assumes nothing.
 use Prim.Native.Nat.{ℕ, zero, suc, _+_, _≤_}
-use mathlib.Core.Path.{_≡_, refl, sym, ap, subst, _∙_}
+use mathlib.Core.Path.{_≡_, refl, sym, ap, subst}
 use mathlib.Core.Bool.{Bool, true, false, not, _&&_, false≢true}
 use mathlib.Core.List.{List, [], _∷_, _++_, append-assoc, append-nil}
 use native.Mathlib.Omega.{arith}
 use lib.Dec.{eqb}
 use Rattle.format.specs.Conditions.{if_then_else_, among, all}
 use Rattle.format.specs.Limits.{limit, dimensionLimit}
-use Rattle.format.specs.Marks.{width, '#', '$', '[', ']'}
-use Rattle.format.specs.Tokens.{plainCount, firstSlowest, firstFastest, Forest, none, node, alone, size, _⊕_, members, counts}
+use Rattle.format.specs.Marks.{'#', '$', '[', ']'}
+use Rattle.format.specs.Tokens.{plainCount, firstSlowest, firstFastest, Forest, none, alone, size, _⊕_, members, counts}
 use Rattle.format.specs.Indexes.{product}
 use Rattle.format.specs.Integers.{smallest}
 use Rattle.format.specs.HouseForm.{smallInteger, shape, token, house}
 use Rattle.format.specs.SameMeaning.{free, hasBytes}
-use Rattle.format.specs.Sequences.{_⨾_}
 use Rattle.format.specs.Dimensions as Dimensions
 use Rattle.format.proofs.Forests.{members-append}
 use Rattle.laws.proofs.Counts.{Vector, Shaped, plain, vector, highestOrder}
