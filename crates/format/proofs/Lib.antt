@@ -8,3 +8,4 @@ pub mod RowWords
 pub mod Parts
 pub mod SameBytes
 pub mod Products
+pub mod KindNumbers

@@ -60,14 +60,14 @@ abbrev pub Gives : (Forest → Type 0) → Reader → Type 0
 Gives P reader = (at row : ℕ) → Holds (Unit {0}) (λ r. P (r .0)) (reader at row)
 
 module _ (m : List ℕ) (rowsLent : ℕ) where
-  key-gives : (kind : Reader) → Gives OneKind kind → Gives (Members true false) (Scalars.key m rowsLent ⨾ kind)
+  pub key-gives : (kind : Reader) → Gives OneKind kind → Gives (Members true false) (Scalars.key m rowsLent ⨾ kind)
   unfolding Scalars.key _⊕_
   key-gives kind g at row = seq-law {Q = λ r. (after : Forest) → Members true true after → Members true false (r .0 ⊕ after)} _ kind at row
       (bind-law (any-law _) λ _ _. then-law (any-law _) λ _. bind-law (any-law _) λ _ _. bind-law (any-law _) λ _ _.
       holds (λ _ r. key (record { kind-is = refl; mark-is = refl; order-is = refl }) r))
       λ f hf. weaken (λ r hr. hf (r .0) (hr true)) (g _ _)
 
-  until-gives : (k : Bool) (fuel : ℕ) (gap : ℕ → ℕ) (closing : ℕ) (item : Reader) → Gives (Members k false) item
+  pub until-gives : (k : Bool) (fuel : ℕ) (gap : ℕ → ℕ) (closing : ℕ) (item : Reader) → Gives (Members k false) item
       → Gives (Members k false) (until m fuel gap closing item)
   unfolding until
   until-gives k zero gap closing item g at row = other refl
@@ -93,7 +93,7 @@ module _ (m : List ℕ) (rowsLent : ℕ) where
   unfolding isLeaf isPlainLeaf among types integers
   text-leaf = refl
 
-  kindBy-gives : (nested : Opening → Reader) → ((o : Opening) → Gives (Group o) (nested o)) → Gives OneKind (Schemas.kindBy m rowsLent nested)
+  pub kindBy-gives : (nested : Opening → Reader) → ((o : Opening) → Gives (Group o) (nested o)) → Gives OneKind (Schemas.kindBy m rowsLent nested)
   unfolding Schemas.kindBy Schemas.plainLeaf Schemas.textLeaf
   kindBy-gives nested g at row = bind-law (any-law _) λ mark _.
       if-law _ (λ h. then-law (any-law _) λ _. holds (leaf-gives mark at _ (plain-leaf mark h))) λ _.
@@ -102,7 +102,7 @@ module _ (m : List ℕ) (rowsLent : ℕ) where
       if-law _ (λ _. weaken (λ _ h. group-one h) (g bracket at row)) λ _.
       if-law _ (λ _. weaken (λ _ h. group-one h) (g brace at row)) λ _. other refl
 
-  nested-gives : (levels : ℕ) (o : Opening) → Gives (Group o) (Schemas.nested m rowsLent levels o)
+  pub nested-gives : (levels : ℕ) (o : Opening) → Gives (Group o) (Schemas.nested m rowsLent levels o)
   unfolding Schemas.nested Schemas.groupBy Schemas.schema Schemas.fixed
   nested-gives zero o at row = other refl
   nested-gives (suc levels) bracket at row = then-law (any-law _) λ _. bind-law (any-law _) λ _ _. then-law (any-law _) λ _.

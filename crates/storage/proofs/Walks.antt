@@ -17,7 +17,7 @@ use Rattle.format.specs.Bytes.{within}
 use Rattle.format.specs.Addresses.{isA, isDimension, along, dimensionsFrom, dimensions, inside}
 use Rattle.laws.specs.Places.{here, later}
 use Rattle.laws.proofs.Schemas.{Is}
-use Rattle.storage.proofs.KindNumbers.{same-number}
+use Rattle.format.proofs.KindNumbers.{same-number}
 use Rattle.storage.proofs.Places.{Rowed}
 use Rattle.laws.proofs.Counts.{Dimensioned, noDimension, oneDimension, Vector, counts-length, Shaped, plain, vector}
 

@@ -1,0 +1,17 @@
+pub mod Equivalence
+pub mod Same
+pub mod Numbers
+pub mod Known
+pub mod Accepted
+pub mod Accepting
+pub mod Layouts
+pub mod Chains
+pub mod Scalars
+pub mod Lists
+pub mod Vectors
+pub mod Payloads
+pub mod Schemas
+pub mod Tables
+pub mod RoundTrip
+pub mod Rewriting
+pub mod Canonical

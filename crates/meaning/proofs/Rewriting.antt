@@ -1,0 +1,62 @@
+-- What rewriting answers: a message of the same meaning in house form, which rewriting leaves as it is. Assumes nothing.
+use Prim.Native.Nat.{ℕ, _≤_}
+use mathlib.Core.Path.{_≡_, refl, sym, subst}
+use mathlib.Core.Bool.{Bool, true, false, _&&_, false≢true}
+use mathlib.Core.List.{List}
+use lib.ListN.{length}
+use lib.Dec.{leb}
+use borrow.Author.Tests.{leb-true, le-leb}
+use Rattle.format.specs.Outcome.{done, _>>=_, _>>_, guard}
+use Rattle.format.specs.Limits.{limit}
+use Rattle.format.specs.Tokens.{Forest}
+use Rattle.format.specs.Read.{read}
+use Rattle.format.specs.HouseForm.{house, rewrite}
+use Rattle.laws.proofs.Holds.{Holds, holds, bind-law, then-law, guard-law, of-done}
+use Rattle.meaning.specs.Rewriting.{Rewritten, InHouseForm}
+use Rattle.meaning.proofs.Accepting.{self-law, read-finds}
+use Rattle.meaning.proofs.RoundTrip.{round-trip, house-settles}
+
+-- both tests pass
+both-true : (a b : Bool) → (a && b) ≡ true → (a ≡ true) × (b ≡ true)
+both-true true b e = (refl, e)
+both-true false b e = absurd (false≢true e)
+
+-- the house form h of the tokens of m, within the room and the limit
+record Written (m : List ℕ) (rowsLent room : ℕ) (h : List ℕ) : Type 0 where
+  tokens : Forest
+  accepted : read m rowsLent ≡ done tokens
+  written : h ≡ house m tokens
+  roomy : length h ≤ room
+  short : length h ≤ limit
+
+module _ (m : List ℕ) (rowsLent room : ℕ) where
+  rewrite-law : Holds (Unit {0}) (Written m rowsLent room) (rewrite m rowsLent room)
+  unfolding rewrite
+  rewrite-law = bind-law (self-law _) λ f e. then-law (guard-law _ _ _ refl) λ t.
+      let b = both-true (leb (length (house m f)) room) _ t in
+      holds (record { tokens = f; accepted = e; written = refl; roomy = leb-true _ room (b .0); short = leb-true _ limit (b .1) })
+
+  -- What was written has the same meaning as the message.
+  pub rewrite-same : (h : List ℕ) → rewrite m rowsLent room ≡ done h → (f : Forest) × (read m rowsLent ≡ done f) × Rewritten m f rowsLent h
+  rewrite-same h e =
+      let w = of-done h rewrite-law e in
+      let fits : length (house m (w .tokens)) ≤ limit = rw (w .written) at (w .short) in
+      (w .tokens, w .accepted, subst (Rewritten m (w .tokens) rowsLent) (sym (w .written)) (round-trip m rowsLent (w .tokens) (w .accepted) fits))
+
+  -- It is in house form.
+  pub rewrite-settled : (h : List ℕ) → rewrite m rowsLent room ≡ done h → InHouseForm h rowsLent
+  rewrite-settled h e =
+      let w = of-done h rewrite-law e in
+      let fits : length (house m (w .tokens)) ≤ limit = rw (w .written) at (w .short) in
+      subst (λ x. InHouseForm x rowsLent) (sym (w .written)) (house-settles m rowsLent (w .tokens) (w .accepted) fits)
+
+-- A message in house form is left as it is, in an output that has room for it.
+pub rewrite-keeps : (h : List ℕ) (rowsLent room : ℕ) → InHouseForm h rowsLent → length h ≤ room → rewrite h rowsLent room ≡ done h
+unfolding rewrite guard _>>=_ _>>_
+rewrite-keeps h rowsLent room s r =
+    let l = of-done (s .tokens) (read-finds h rowsLent) (s .accepted) in
+    rw (s .accepted, s .own, le-leb _ _ r, le-leb _ _ (l .0))
+
+-- A second rewriting changes nothing.
+pub rewrite-again : (m h : List ℕ) (rowsLent room : ℕ) → rewrite m rowsLent room ≡ done h → rewrite h rowsLent room ≡ done h
+rewrite-again m h rowsLent room e = rewrite-keeps h rowsLent room (rewrite-settled m rowsLent room h e) (of-done h (rewrite-law m rowsLent room) e .roomy)
