@@ -1,10 +1,10 @@
--- `lines::all`: a loop over the lines. Assumes nothing.
+-- `runs::all`: a loop over the lines. Assumes nothing.
 use borrow.Author.Needs.{needs}
 use Prim.Native.Nat.{_-_}
 use lib.ListN.{length}
 use mathlib.Core.Path.{_≡_}
-use Rattle.vectors.proofs.lines.all.Statement.{statement}
-use Rattle.vectors.proofs.lines.all.Tie as tie
+use Rattle.vectors.proofs.runs.all.Statement.{statement}
+use Rattle.vectors.proofs.runs.all.Tie as tie
 
 abbrev Inv-loop : tie.InvT-loop
 Inv-loop text message₀ at₀ message at = length message ≡ length message₀

@@ -2,8 +2,8 @@
 use borrow.Author.Needs.{needs}
 use lib.ListN.{length}
 use mathlib.Core.Path.{_≡_}
-use Rattle.vectors.proofs.words.repeated.Statement.{statement}
-use Rattle.vectors.proofs.words.repeated.Tie as tie
+use Rattle.lines.proofs.words.repeated.Statement.{statement}
+use Rattle.lines.proofs.words.repeated.Tie as tie
 
 abbrev Inv-loop : tie.InvT-loop
 Inv-loop text from end times message₀ first left₀ n₀ message left n = length message ≡ length message₀

@@ -1,5 +1,6 @@
 // Bytes and numbers of the input.
-ghost use Prim.Native.Nat.{_≤_, _<_};
+ghost use mathlib.Core.Path.{_≡_};
+ghost use Prim.Native.Nat.{_≤_};
 
 // A number, and the place after it.
 pub struct Number {
@@ -35,21 +36,28 @@ pub fn least(a: usize, b: usize) -> usize
 
 // A byte as a number.
 fn wide(b: u8) -> usize
-    ensures { λ r. ⌜ r < 256 ⌝ }
+    ensures { λ r. ⌜ r ≡ b ⌝ }
 {
     b as usize
 }
 
-// A number with one more decimal digit; numbers over two million are kept as they are.
+// A number with one more decimal digit. A number that has no room for one more is kept as it is: it is still larger than any
+// count, length, row or index that is in range.
 fn longer(value: usize, digit: u8) -> usize {
-    if value < 2000000 && b'0' <= digit && digit <= b'9' {
-        return value * 10 + wide(digit - b'0');
+    if 1_844_674_407_370_955_160 < value {
+        return value;
     }
-    value
+    if digit < b'0' {
+        return value;
+    }
+    if b'9' < digit {
+        return value;
+    }
+    value * 10 + wide(digit - b'0')
 }
 
 // Whether the byte is a decimal digit.
-fn is_digit(b: u8) -> bool {
+pub fn is_digit(b: u8) -> bool {
     b'0' <= b && b <= b'9'
 }
 
@@ -65,4 +73,31 @@ pub fn decimal(text: &[u8], from: usize) -> Number {
         value: value,
         next: at,
     }
+}
+
+// The place after the next such byte, or the end of the text.
+pub fn past(text: &[u8], from: usize, stop: u8) -> usize {
+    let mut at = from;
+    while at < text.len() {
+        let b = text[at];
+        at += 1;
+        if b == stop {
+            return at;
+        }
+    }
+    at
+}
+
+// Whether these bytes stand at a place.
+pub fn stand_at(text: &[u8], from: usize, part: &[u8]) -> bool {
+    let mut at = from;
+    let mut i: usize = 0;
+    while i < part.len() {
+        if byte(text, at) != part[i] {
+            return false;
+        }
+        at = after(at);
+        i += 1;
+    }
+    true
 }

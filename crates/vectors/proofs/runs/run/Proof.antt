@@ -1,10 +1,10 @@
--- `lines::run`: the rows lent are a part of the buffer. Assumes nothing.
+-- `runs::run`: the rows lent are a part of the buffer. Assumes nothing.
 use mathlib.Core.Path.{sym}
 use native.Mathlib.Omega.{arith}
 use borrow.Table.Elements.{length-take-le}
 use borrow.Author.Needs.{needs}
-use Rattle.vectors.proofs.lines.run.Statement.{statement}
-use Rattle.vectors.proofs.lines.run.Tie as tie
+use Rattle.vectors.proofs.runs.run.Statement.{statement}
+use Rattle.vectors.proofs.runs.run.Tie as tie
 
 rows-requires : tie.Need-rows-requires
 rows-requires c κs = search needs

@@ -1,10 +1,10 @@
 // The lines of the input: the rows lent, and a message.
 use crate::buffers;
-use crate::numbers::after;
-use crate::numbers::decimal;
-use crate::numbers::least;
 use crate::show;
-use crate::words::stored;
+use lines::numbers::after;
+use lines::numbers::decimal;
+use lines::numbers::least;
+use lines::words::stored;
 
 // One message, with so many rows lent.
 fn run(message: &[u8], lent: usize) {

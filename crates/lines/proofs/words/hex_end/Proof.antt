@@ -1,15 +1,15 @@
--- `numbers::decimal`: a loop over the digits. Assumes nothing.
+-- `words::hex_end`: a loop over the hex digits. Assumes nothing.
 use borrow.Author.Needs.{needs}
 use Prim.Native.Nat.{_-_}
 use lib.ListN.{length}
-use Rattle.vectors.proofs.numbers.decimal.Statement.{statement}
-use Rattle.vectors.proofs.numbers.decimal.Tie as tie
+use Rattle.lines.proofs.words.hex_end.Statement.{statement}
+use Rattle.lines.proofs.words.hex_end.Tie as tie
 
 abbrev Inv-loop : tie.InvT-loop
-Inv-loop text from at₀ value₀ at value = Unit {0}
+Inv-loop text from at₀ at = Unit {0}
 
 abbrev μ-loop : tie.MeasureT-loop
-μ-loop text from at₀ value₀ at value = length text - at
+μ-loop text from at₀ at = length text - at
 
 loop-holds : tie.Need-loop-holds Inv-loop μ-loop
 loop-holds c = search needs
@@ -17,14 +17,8 @@ loop-holds c = search needs
 byte-requires : tie.Need-byte-requires Inv-loop μ-loop
 byte-requires c κs = search needs
 
-is-digit-requires : tie.Need-is-digit-requires Inv-loop μ-loop
-is-digit-requires c κs = search needs
-
-byte-requires-2 : tie.Need-byte-requires-2 Inv-loop μ-loop
-byte-requires-2 c κs = search needs
-
-longer-requires : tie.Need-longer-requires Inv-loop μ-loop
-longer-requires c κs = search needs
+digit-requires : tie.Need-digit-requires Inv-loop μ-loop
+digit-requires c κs = search needs
 
 add-at : tie.Need-add-at Inv-loop μ-loop
 add-at c = search needs
@@ -41,17 +35,15 @@ returns c = search needs
 returns-2 : tie.Need-returns-2 Inv-loop μ-loop
 returns-2 c = search needs
 
-pub decimal-spec : {M : Type 1} → statement M
-decimal-spec =
+pub hex-end-spec : {M : Type 1} → statement M
+hex-end-spec =
     tie.close
     (tie.spec
     Inv-loop
     μ-loop
     loop-holds
     byte-requires
-    is-digit-requires
-    byte-requires-2
-    longer-requires
+    digit-requires
     add-at
     loop-less
     loop-again

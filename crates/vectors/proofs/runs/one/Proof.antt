@@ -1,10 +1,10 @@
--- `lines::one`: the message is a part of the buffer. Assumes nothing.
+-- `runs::one`: the message is a part of the buffer. Assumes nothing.
 use mathlib.Core.Path.{sym}
 use native.Mathlib.Omega.{arith}
 use borrow.Table.Elements.{length-take-le}
 use borrow.Author.Needs.{needs}
-use Rattle.vectors.proofs.lines.one.Statement.{statement}
-use Rattle.vectors.proofs.lines.one.Tie as tie
+use Rattle.vectors.proofs.runs.one.Statement.{statement}
+use Rattle.vectors.proofs.runs.one.Tie as tie
 
 decimal-requires : tie.Need-decimal-requires
 decimal-requires c κs = search needs

@@ -3,8 +3,8 @@ use borrow.Author.Needs.{needs}
 use Prim.Native.Nat.{_-_}
 use lib.ListN.{length}
 use mathlib.Core.Path.{_≡_}
-use Rattle.vectors.proofs.words.stored.Statement.{statement}
-use Rattle.vectors.proofs.words.stored.Tie as tie
+use Rattle.lines.proofs.words.stored.Statement.{statement}
+use Rattle.lines.proofs.words.stored.Tie as tie
 
 abbrev Inv-loop : tie.InvT-loop
 Inv-loop text from message₀ at₀ n₀ message at n = length message ≡ length message₀

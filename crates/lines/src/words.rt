@@ -94,8 +94,8 @@ fn times(text: &[u8], at: usize) -> Number {
     Number { value: 1, next: at }
 }
 
-// Stores one word; answers the place after its last byte in the message, and the place after it in the text.
-fn word(text: &[u8], at: usize, message: &mut [u8], first: usize) -> Number {
+// Stores one word from a place of the message on; answers the place after its last byte in the message, and the place after it in the text.
+pub fn word(text: &[u8], at: usize, message: &mut [u8], first: usize) -> Number {
     let end = hex_end(text, at);
     let t = times(text, end);
     let n = repeated(text, at, end, t.value, message, first);
