@@ -1,13 +1,11 @@
 // Runs the reader on the messages of standard input, a line each, and lists what it answers.
 mod buffers;
-mod lines;
-mod numbers;
+mod runs;
 mod show;
-mod words;
 
 fn main() {
     let mut text = buffers::text();
     let n = io::read_full(0, &mut text);
     let mut message = buffers::message();
-    lines::all(&text[..n], &mut message);
+    runs::all(&text[..n], &mut message);
 }

@@ -1,6 +1,8 @@
 // What the reader answers, as a line.
 use format::answers::Answer;
-use libc::STDOUT_FILENO;
+use lines::show::bytes;
+use lines::show::number;
+use lines::show::three;
 ghost use Prim.Native.Nat.{_≤_};
 
 // The words of so many rows, or of all the buffer's.
@@ -27,22 +29,22 @@ fn is_clear(rows: &[u32], from: usize) -> bool {
 
 // A row's words, with a comma between two.
 fn row(rows: &[u32], r: usize) {
-    io::print_decimal(STDOUT_FILENO, rows::word(rows, r, 0) as u64);
+    number(rows::word(rows, r, 0) as u64);
     let mut k: usize = 1;
     while k < 8 {
-        io::write_all(STDOUT_FILENO, b",");
-        io::print_decimal(STDOUT_FILENO, rows::word(rows, r, k) as u64);
+        bytes(b",");
+        number(rows::word(rows, r, k) as u64);
         k += 1;
     }
 }
 
 // The first rows, with a slash between two.
 fn some_rows(rows: &[u32], shown: usize) {
-    io::write_all(STDOUT_FILENO, b" | ");
+    bytes(b" | ");
     row(rows, 0);
     let mut r: usize = 1;
     while r < shown {
-        io::write_all(STDOUT_FILENO, b" / ");
+        bytes(b" / ");
         row(rows, r);
         r += 1;
     }
@@ -55,36 +57,27 @@ fn rows_used(rows: &[u32], used: usize) {
         return;
     }
     some_rows(rows, 3);
-    io::write_all(STDOUT_FILENO, b" / ...");
-}
-
-// The answer's number, place and rows used.
-fn answer(number: u32, place: usize, used: usize) {
-    io::print_decimal(STDOUT_FILENO, number as u64);
-    io::write_all(STDOUT_FILENO, b" ");
-    io::print_decimal(STDOUT_FILENO, place as u64);
-    io::write_all(STDOUT_FILENO, b" ");
-    io::print_decimal(STDOUT_FILENO, used as u64);
+    bytes(b" / ...");
 }
 
 // The line's end, which says whether words are left that should be zero.
 fn end(rows: &[u32], used: usize) {
     if !is_clear(rows, words_of(used)) {
-        io::write_all(STDOUT_FILENO, b" words left");
+        bytes(b" words left");
     }
-    io::write_all(STDOUT_FILENO, b"\n");
+    bytes(b"\n");
 }
 
 // Reads the message, and writes the line.
 pub fn line(message: &[u8], rows: &mut [u32]) {
     match reader::message::read(message, rows) {
         Answer::Done(used) => {
-            answer(0, 0, used);
+            three(0, 0, used as u64);
             rows_used(rows, used);
             end(rows, used);
         }
-        Answer::Refused(number, place) => {
-            answer(number, place, 0);
+        Answer::Refused(refusal, place) => {
+            three(refusal as u64, place as u64, 0);
             end(rows, 0);
         }
     }

@@ -1,0 +1,4 @@
+// Lines of test data, as the programs read and write them.
+pub mod numbers;
+pub mod show;
+pub mod words;
