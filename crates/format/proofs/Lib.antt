@@ -7,3 +7,4 @@ pub mod Forests
 pub mod RowWords
 pub mod Parts
 pub mod SameBytes
+pub mod Products

@@ -1,0 +1,65 @@
+// Integer records: lengths, counts and dimensions.
+use crate::numbers::low;
+use crate::pen::Pen;
+use crate::pen::letter;
+use crate::pen::put_number;
+use format::marks::Mark;
+
+// The largest number that an integer of a mark may be asked to hold.
+fn largest(mark: u8) -> u32 {
+    match mark {
+        b'i' => 127,
+        b'U' => 255,
+        b'I' => 32767,
+        b'u' => 65535,
+        _ => 0x7FFF_FFFF,
+    }
+}
+
+// A mark that can hold a number: most often `U`, else any.
+pub fn fitting(pen: Pen, number: u32) -> Pen {
+    let mut drawn = pen.draw(16);
+    let mark = if drawn.value < 8 {
+        letter(b"iUIulmLM", drawn.value)
+    } else {
+        b'U'
+    };
+    drawn.value = if number <= largest(mark) {
+        mark as u32
+    } else {
+        b'm' as u32
+    };
+    drawn
+}
+
+// Writes an integer record of the mark.
+fn record(buffer: &mut [u8], pen: Pen, mark: u8, number: u64) -> Pen {
+    let after = pen.put(buffer, mark);
+    put_number(buffer, after, number, Mark(mark).width())
+}
+
+// Writes an integer that is refused: negative, or over the limit by little or by much.
+fn wrong(buffer: &mut [u8], pen: Pen) -> Pen {
+    let drawn = pen.draw(8);
+    let choice = drawn.value;
+    match choice {
+        0 => record(buffer, drawn, b'i', 0xFF),
+        1 => record(buffer, drawn, b'I', 0x8000),
+        2 => record(buffer, drawn, b'l', 0xFFFF_FF00),
+        3 => record(buffer, drawn, b'L', 0x8000_0000_0000_0000),
+        4 => record(buffer, drawn, b'l', 1_048_577),
+        5 => record(buffer, drawn, b'm', 0x8000_0001),
+        6 => record(buffer, drawn, b'L', 0x1_0000_0002),
+        _ => record(buffer, drawn, b'M', 0xFFFF_FFFF_FFFF_FFFE),
+    }
+}
+
+// Writes an integer record.
+pub fn integer(buffer: &mut [u8], pen: Pen, number: u32) -> Pen {
+    let slip = pen.slip(20);
+    if slip.value == 1 {
+        return wrong(buffer, slip);
+    }
+    let drawn = fitting(slip, number);
+    record(buffer, drawn, low(drawn.value), number as u64)
+}
