@@ -4,7 +4,7 @@ mod edits;
 mod integers;
 mod numbers;
 mod numerals;
-mod pen;
+pub mod pen;
 mod schema;
 mod tables;
 mod token;
