@@ -13,6 +13,7 @@ use Rattle.format.specs.Storage.{Slot, endToEnd, elements, leaves, byRows, byCo
 use Rattle.format.specs.HouseForm.{Written, whole, token, written, house}
 use Rattle.format.specs.SameMeaning.{free, hasBytes}
 use Rattle.laws.proofs.Schemas.{groupKind, Members, noMore, key, leaf, group, Group, grouped}
+use Rattle.meaning.specs.Standing.{Stands, AllStand, noToken, nextToken}
 use Rattle.meaning.proofs.Same.{Counts, Alike, Same, nothing, one}
 
 -- ---- the tokens of schemas
@@ -102,6 +103,12 @@ elements-cut row row′ mark l =
     endToEnd-cut l (width mark) _ _ (λ a at. slot (record { marks = refl; offsets = refl; widths = refl }) noSlot) 0
 
 module _ (m h : List ℕ) where
+  pub schematic-same : {f g : Forest} → Schematic f → Same m h f g → Schematic g
+  schematic-same empty nothing = empty
+  schematic-same (some {t = t} k s r) (one {u = u} a p q) =
+      let l : InSchema (u .kind) = rw (a .kinds) k in
+      some l (schematic-same s p) (schematic-same r q)
+
   -- ---- as wide
 
   member-same : (t u : Token) → InSchema (t .kind) → Alike m h (t .kind) t u → memberWidth u ≡ memberWidth t
@@ -208,3 +215,24 @@ module _ (m : List ℕ) where
       let x : token m (t .kind) (atOffset 0 t) (written m (placed 0 b)) ≡ token m (t .kind) t (written m b) ++ [] =
       ap (token m (t .kind) (atOffset 0 t)) (written-placed (members-schematic u) 0) ∙ token-placed t 0 (written m b) k n ∙ sym (append-nil _) in
       rw n (λ j. record { first = x j; rest = whole (written m dims) })
+
+  -- ---- standing alike
+
+  stands-placed : (t : Token) (at : ℕ) {below : Forest} → InSchema (t .kind) → Schematic below → isKind keyKind (t .kind) ≡ false → Stands m t below
+      → Stands m (atOffset at t) (placed at below)
+  unfolding atOffset
+  stands-placed t at k s e p = record {
+    rest = p .rest;
+    stands = p .stands ∙ ap (λ x. x ++ p .rest) (sym (ap (token m (t .kind) (atOffset at t)) (written-placed s at) ∙ token-placed t at _ k e));
+  }
+
+  pub all-placed : {f : Forest} → Schematic f → AllStand m f → (at : ℕ) → AllStand m (placed at f)
+  unfolding placed if_then_else_ atOffset
+  all-placed empty noToken at = noToken
+  all-placed (some {t = t} {below = b} {after = c} k s r) (nextToken p q v) at =
+      go (isKind keyKind (t .kind)) refl (all-placed s q at) (all-placed r v at) (all-placed r v (at + t .extent))
+    where
+      go : (x : Bool) → isKind keyKind (t .kind) ≡ x → AllStand m (placed at b) → AllStand m (placed at c) → AllStand m (placed (at + t .extent) c)
+          → AllStand m (if x then node t b (placed at c) else node (atOffset at t) (placed at b) (placed (at + t .extent) c))
+      go true e u w z = nextToken p q w
+      go false e u w z = nextToken (stands-placed t at k s e p) u z
