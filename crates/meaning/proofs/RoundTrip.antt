@@ -113,26 +113,35 @@ read-again m rowsLent f a lent few u =
     guard-known _ _ _ (eq-eqb _ _ (skip-end h (r .1) (omega arith) ∙ end)) (succeeds (hr .0)))
 
 module _ (m : List ℕ) (rowsLent : ℕ) (f : Forest) (accepted : Read.read m rowsLent ≡ done f) (fits : length (house m f) ≤ limit) where
-  copied-tokens : (g : Forest) × (Read.read (house m f) rowsLent ≡ done g) × Copy m (house m f) f g
-  copied-tokens =
+  copied-tokens : (rows : ℕ) → size f ≤ rows → (g : Forest) × (Read.read (house m f) rows ≡ done g) × Copy m (house m f) f g
+  copied-tokens rows enough =
       let a = of-done f (read-finds m rowsLent) accepted in
       let k = rows-few m rowsLent f accepted in
-      answer (read-again m rowsLent f (a .1) (k .1) (omega arith) fits)
+      answer (read-again m rows f (a .1) enough (omega arith) fits)
 
-  -- The house form of an accepted message, where it fits, is accepted with as many rows, and has the same meaning.
-  pub round-trip : Rewritten m f rowsLent (house m f)
+  -- the rows that were lent are enough
+  lent : size f ≤ rowsLent
+  lent = rows-few m rowsLent f accepted .1
+
+  -- The house form of an accepted message, where it fits, is accepted with any number of rows that holds the message's, and has the
+  -- same meaning.
+  pub round-trip-with : (rows : ℕ) → size f ≤ rows → Rewritten m f rows (house m f)
   unfolding allRows
-  round-trip =
-      let r = copied-tokens in
+  round-trip-with rows enough =
+      let r = copied-tokens rows enough in
       record { tokens = r .0; accepted = r .1; meaning = same-rows m (house m f) 0 (r .2 .same); rows-used = same-size m (house m f) (r .2 .same) }
+
+  -- So it is with the rows that were lent to the message.
+  pub round-trip : Rewritten m f rowsLent (house m f)
+  round-trip = round-trip-with rowsLent lent
 
   -- It is its own house form: rewriting it again changes nothing.
   pub house-settles : InHouseForm (house m f) rowsLent
-  house-settles = let r = copied-tokens in record { tokens = r .0; accepted = r .1; own = same-house m (house m f) (r .2 .same) }
+  house-settles = let r = copied-tokens rowsLent lent in record { tokens = r .0; accepted = r .1; own = same-house m (house m f) (r .2 .same) }
 
   -- Every token of it stands in it as it is written, from its first byte on.
   pub house-stands : (g : Forest) → Read.read (house m f) rowsLent ≡ done g → AllStand (house m f) g
   house-stands g e =
-      let r = copied-tokens in
+      let r = copied-tokens rowsLent lent in
       let t : r .0 ≡ g = let x = r .1 in cc in
       subst (AllStand (house m f)) t (r .2 .stand)
