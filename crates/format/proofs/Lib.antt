@@ -8,3 +8,4 @@ pub mod RowWords
 pub mod Parts
 pub mod SameBytes
 pub mod KindNumbers
+pub mod Tests
