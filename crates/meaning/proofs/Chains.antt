@@ -20,6 +20,7 @@ use Rattle.meaning.proofs.Known.{Succeeds, succeeds, after, better, tak
 
 -- ---- what is written of forests
 
+-- one forest is written, and then the other
 pub house-append : (m : List ℕ) (f g : Forest) → house m (f ⊕ g) ≡ house m f ++ house m g
 unfolding house written whole _⊕_
 house-append m none g = refl
@@ -27,6 +28,7 @@ house-append m (node t below after) g =
     ap (λ x. token m (t .kind) t (written m below) ++ x) (house-append m after g)
     ∙ sym (append-assoc (token m (t .kind) t (written m below)) (house m after) (house m g))
 
+-- a token with nothing after it is written by itself
 house-alone : (m : List ℕ) (t : Token) (below : Forest) → house m (node t below none) ≡ token m (t .kind) t (written m below)
 unfolding house written whole
 house-alone m t below = append-nil (token m (t .kind) t (written m below))
@@ -54,9 +56,11 @@ pub record Begins (bad x : List ℕ) : Type 0 where
   pub split : x ≡ head ∷ tail
   pub fits : among bad head ≡ false
 
+-- with others after them too
 pub begins-append : {bad x : List ℕ} (y : List ℕ) → Begins bad x → Begins bad (x ++ y)
 begins-append y o = record { head = o .head; tail = o .tail ++ y; split = ap (λ x. x ++ y) (o .split); fits = o .fits }
 
+-- what is none of these isn't one of them
 pub differs : (bad : List ℕ) (b c : ℕ) → among bad c ≡ true → among bad b ≡ false → eqb b c ≡ false
 differs bad b c t n = go (eqb b c) refl
   where
@@ -104,6 +108,7 @@ module _ (m h : List ℕ) (most : ℕ) where
 
   -- ---- one after another
 
+  -- the bytes of both, part by part
   pub house-split : {at : ℕ} (f g : Forest) (l : List ℕ) → From h at (house m (f ⊕ g) ++ l) → From h at (house m f ++ (house m g ++ l))
   house-split {at} f g l e = subst (From h at) (ap (λ x. x ++ l) (house-append m f g) ∙ append-assoc (house m f) (house m g) l) e
 
@@ -118,6 +123,7 @@ module _ (m h : List ℕ) (most : ℕ) where
       after (k (r .1) (row + size (r .0)) (hr .1) (omega (arith, size-append f g, same-size m h (hr .0 .same)))) λ u hu.
       succeeds (copy-append (hr .0) (hu .0), hu .1)
 
+  -- one reader, and then another
   pub seq-reads : {first other : Reader} {f g : Forest} → Reads first (house m f) f → Reads other (house m g) g → Reads (first ⨾ other) (house m (f ⊕ g)) (f ⊕ g)
   seq-reads p q at row l e s = seq-same l (λ next. From h next l) at row p e s λ next row′ e′ s′. q next row′ l e′ s′
 
@@ -159,9 +165,11 @@ module _ (m h : List ℕ) (most : ℕ) where
 
   -- ---- any number
 
+  -- one more member
   one-more : (f g : Forest) → members f ≡ 1 → members (f ⊕ g) ≡ suc (members g)
   one-more f g e = members-append f g ∙ ap (λ n. n + members g) e ∙ omega arith
 
+  -- counted
   pub chain-repeat : {bad : List ℕ} {item : Reader} {f : Forest} → Chain bad item f → Reads (repeat (members f) item) (house m f) f
   unfolding repeat house written whole members
   chain-repeat stop at row l e s = succeeds (no-copy m h, e)
