@@ -9,3 +9,4 @@ pub mod Parts
 pub mod SameBytes
 pub mod Products
 pub mod KindNumbers
+pub mod Tests

@@ -19,7 +19,7 @@ use Rattle.format.proofs.KindNumbers.{same-number}
 use Rattle.format.proofs.Forests.{length-rows}
 use Rattle.meaning.specs.Rewriting.{Rewritten}
 use Rattle.meaning.proofs.Same.{Counts, Alike, Same, nothing, one, same-house}
-use Rattle.meaning.proofs.RoundTrip.{round-trip}
+use Rattle.meaning.proofs.RoundTrip.{round-trip-with}
 
 -- ---- words that count
 
@@ -108,13 +108,14 @@ module _ (m h : List ℕ) where
   one-house-form f g e = same-house m h (meaning-same 0 f g e)
 
 -- Two accepted messages, whose house form fits, have the same meaning exactly if they have the same house form.
-pub meaning-by-house : (m n : List ℕ) (rowsLent : ℕ) (f g : Forest) → read m rowsLent ≡ done f → read n rowsLent ≡ done g → length (house m f) ≤ limit
+pub meaning-by-house : (m n : List ℕ) (rowsLent rowsLent′ : ℕ) (f g : Forest) → read m rowsLent ≡ done f → read n rowsLent′ ≡ done g → length (house m f) ≤ limit
     → SameMeaning m (allRows f) n (allRows g) ↔ (house n g ≡ house m f)
-meaning-by-house m n rowsLent f g p q fits = (one-house-form m n f g, back)
+meaning-by-house m n rowsLent rowsLent′ f g p q fits = (one-house-form m n f g, back)
   where
     back : house n g ≡ house m f → SameMeaning m (allRows f) n (allRows g)
     back e =
-        let r = round-trip m rowsLent f p fits in
-        let s : Rewritten n g rowsLent (house m f) = subst (Rewritten n g rowsLent) e (round-trip n rowsLent g q (rw e fits)) in
+        let r = round-trip-with m rowsLent f p fits (size f + size g) (omega arith) in
+        let s : Rewritten n g (size f + size g) (house m f) =
+        subst (Rewritten n g (size f + size g)) e (round-trip-with n rowsLent′ g q (rw e fits) (size f + size g) (omega arith)) in
         let t : s .tokens ≡ r .tokens = let x = r .accepted in let y = s .accepted in cc in
         r .meaning ∙ ap (λ k. map (rowMeaning (house m f)) (allRows k)) (sym t) ∙ sym (s .meaning)

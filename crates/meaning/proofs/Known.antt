@@ -35,11 +35,13 @@ answer (succeeds {a = a} p) = (a, refl, p)
 
 -- ---- one step and then the rest
 
+-- what the first gives, and the rest with it
 pub after : {A B : Type 0} {P : B → Type 0} {Q : A → Type 0} {o : Outcome A} {f : A → Outcome B}
     → Succeeds Q o → ((a : A) → Q a → Succeeds P (f a)) → Succeeds P (o >>= f)
 unfolding _>>=_
 after (succeeds {a = a} q) k = k a q
 
+-- a first step whose answer is known
 pub known : {A B : Type 0} {P : B → Type 0} {o : Outcome A} (f : A → Outcome B) (a : A) → o ≡ done a → Succeeds P (f a) → Succeeds P (o >>= f)
 unfolding _>>=_
 known f a e k = rw e k
@@ -48,6 +50,7 @@ pub then-known : {A : Type 0} {P : A → Type 0} {o : Outcome (Unit {0})} {r : O
 unfolding _>>_
 then-known e k = rw e k
 
+-- what follows from it holds too
 pub better : {A : Type 0} {P Q : A → Type 0} {o : Outcome A} → ((a : A) → Q a → P a) → Succeeds Q o → Succeeds P o
 better k (succeeds {a = a} q) = succeeds (k a q)
 
@@ -92,9 +95,11 @@ module _ (h : List ℕ) where
     pub here : at ≤ length h
     pub rest : drop at h ≡ l
 
+  -- so many bytes are left
   pub from-length : (at : ℕ) (l : List ℕ) → From at l → at + length l ≡ length h
   from-length at l e = let a = e .here in omega (arith, ap length (e .rest), length-drop at h)
 
+  -- past some bytes
   pub from-past : {at : ℕ} {l : List ℕ} (x : List ℕ) → From at (x ++ l) → From (at + length x) l
   from-past {at} {l} x e = record {
     here = omega (arith, from-length at (x ++ l) e, length-append x l);
@@ -105,6 +110,7 @@ module _ (h : List ℕ) where
   pub from-after : {at : ℕ} {l : List ℕ} (n : ℕ) (x : List ℕ) → length x ≡ n → From at (x ++ l) → From (at + n) l
   from-after {at} {l} n x w e = subst (λ k. From (at + k) l) w (from-past x e)
 
+  -- the bytes that stand there
   pub from-bytes : (at n : ℕ) (x l : List ℕ) → length x ≡ n → From at (x ++ l) → bytes h at n ≡ x
   unfolding bytes
   from-bytes at n x l w e = rw (← w, e .rest) (take-append-seam x l)

@@ -12,7 +12,9 @@ use Rattle.format.specs.Records.{memberWidth, totalWidth, atOffset, placed}
 use Rattle.format.specs.Storage.{Slot, endToEnd, elements, leaves, byRows, byColumns, records}
 use Rattle.format.specs.HouseForm.{Written, whole, token, written, house}
 use Rattle.format.specs.SameMeaning.{free, hasBytes}
+use Rattle.laws.proofs.Order.{group-kind}
 use Rattle.laws.proofs.Schemas.{groupKind, Members, noMore, key, leaf, group, Group, grouped}
+use Rattle.meaning.specs.Standing.{Stands, AllStand, noToken, nextToken}
 use Rattle.meaning.proofs.Same.{Counts, Alike, Same, nothing, one}
 
 -- ---- the tokens of schemas
@@ -29,21 +31,16 @@ pub data Schematic : Forest → Type 0 where
   empty : Schematic none
   some : {t : Token} {below after : Forest} → InSchema (t .kind) → Schematic below → Schematic after → Schematic (node t below after)
 
-group-kind : (o : Opening) → InSchema (groupKind o)
-group-kind bracket = anArray
-group-kind brace = aRecord
-
-group-no-key : (o : Opening) → isKind keyKind (groupKind o) ≡ false
-unfolding isKind
-group-no-key bracket = refl
-group-no-key brace = refl
+group-in-schema : (o : Opening) → InSchema (groupKind o)
+group-in-schema bracket = anArray
+group-in-schema brace = aRecord
 
 pub members-schematic : {k due : Bool} {f : Forest} → Members k due f → Schematic f
 members-schematic noMore = empty
 members-schematic (key {t = t} i r) = let k : InSchema (t .kind) = rw (i .kind-is) aKey in some k empty (members-schematic r)
 members-schematic (leaf {t = t} i r) = let k : InSchema (t .kind) = rw (i .kind-is) aLeaf in some k empty (members-schematic r)
 members-schematic (group o {t = t} i e u r) =
-    let k : InSchema (t .kind) = rw (i .kind-is) (group-kind o) in
+    let k : InSchema (t .kind) = rw (i .kind-is) (group-in-schema o) in
     some k (members-schematic u) (members-schematic r)
 
 -- their marks and widths count
@@ -102,6 +99,12 @@ elements-cut row row′ mark l =
     endToEnd-cut l (width mark) _ _ (λ a at. slot (record { marks = refl; offsets = refl; widths = refl }) noSlot) 0
 
 module _ (m h : List ℕ) where
+  pub schematic-same : {f g : Forest} → Schematic f → Same m h f g → Schematic g
+  schematic-same empty nothing = empty
+  schematic-same (some {t = t} k s r) (one {u = u} a p q) =
+      let l : InSchema (u .kind) = rw (a .kinds) k in
+      some l (schematic-same s p) (schematic-same r q)
+
   -- ---- as wide
 
   member-same : (t u : Token) → InSchema (t .kind) → Alike m h (t .kind) t u → memberWidth u ≡ memberWidth t
@@ -203,8 +206,29 @@ module _ (m : List ℕ) where
   pub schema-written : {o : Opening} {s : Forest} (dims : Forest) → Group o s → written m (placed 0 s ⊕ dims) ≡ record { first = house m s; rest = house m dims }
   unfolding placed _⊕_ written house whole if_then_else_ atOffset
   schema-written {o} dims (grouped {t = t} {below = b} i e u) =
-      let k : InSchema (t .kind) = rw (i .kind-is) (group-kind o) in
-      let n : isKind keyKind (t .kind) ≡ false = rw (i .kind-is) (group-no-key o) in
+      let k : InSchema (t .kind) = rw (i .kind-is) (group-in-schema o) in
+      let n : isKind keyKind (t .kind) ≡ false = rw (i .kind-is) (group-kind o .not-key) in
       let x : token m (t .kind) (atOffset 0 t) (written m (placed 0 b)) ≡ token m (t .kind) t (written m b) ++ [] =
       ap (token m (t .kind) (atOffset 0 t)) (written-placed (members-schematic u) 0) ∙ token-placed t 0 (written m b) k n ∙ sym (append-nil _) in
       rw n (λ j. record { first = x j; rest = whole (written m dims) })
+
+  -- ---- standing alike
+
+  stands-placed : (t : Token) (at : ℕ) {below : Forest} → InSchema (t .kind) → Schematic below → isKind keyKind (t .kind) ≡ false → Stands m t below
+      → Stands m (atOffset at t) (placed at below)
+  unfolding atOffset
+  stands-placed t at k s e p = record {
+    rest = p .rest;
+    stands = p .stands ∙ ap (λ x. x ++ p .rest) (sym (ap (token m (t .kind) (atOffset at t)) (written-placed s at) ∙ token-placed t at _ k e));
+  }
+
+  pub all-placed : {f : Forest} → Schematic f → AllStand m f → (at : ℕ) → AllStand m (placed at f)
+  unfolding placed if_then_else_ atOffset
+  all-placed empty noToken at = noToken
+  all-placed (some {t = t} {below = b} {after = c} k s r) (nextToken p q v) at =
+      go (isKind keyKind (t .kind)) refl (all-placed s q at) (all-placed r v at) (all-placed r v (at + t .extent))
+    where
+      go : (x : Bool) → isKind keyKind (t .kind) ≡ x → AllStand m (placed at b) → AllStand m (placed at c) → AllStand m (placed (at + t .extent) c)
+          → AllStand m (if x then node t b (placed at c) else node (atOffset at t) (placed at b) (placed (at + t .extent) c))
+      go true e u w z = nextToken p q w
+      go false e u w z = nextToken (stands-placed t at k s e p) u z

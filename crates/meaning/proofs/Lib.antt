@@ -15,3 +15,4 @@ pub mod Tables
 pub mod RoundTrip
 pub mod Rewriting
 pub mod Canonical
+pub mod Forms

@@ -15,7 +15,7 @@ use Rattle.format.specs.Containers as Containers
 use Rattle.format.specs.Read as Read
 use Rattle.meaning.proofs.Same.{Same, nothing, one, same-members}
 use Rattle.meaning.proofs.Known.{Succeeds, succeeds, after, taken, passed, From, from-past, byte-known, row-known, integer-known}
-use Rattle.meaning.proofs.Chains.{closers, Reading, Chain, alone-reading, chain-repeat, members-few}
+use Rattle.meaning.proofs.Chains.{closers, CopyAt, copyAt, Reading, Chain, alone-reading, chain-repeat, members-few}
 
 -- a container's place, payload and extent may differ, and its bytes don't count
 list-free : (o : Opening) → (among (free (kindNumber (Containers.containerKind o))) 3 ≡ true) × (among (free (kindNumber (Containers.containerKind o))) 4 ≡ true)
@@ -57,14 +57,14 @@ module _ (m h : List ℕ) (rowsLent most : ℕ) (lent : most ≤ rowsLent) (few 
 
   list-reads : (levels : ℕ) (o : Opening) (at₀ start end : ℕ) {under : Forest} → Chain m h most closers (spaced h (Containers.items h rowsLent o (valueAt levels))) under
       → (at row : ℕ) (l : List ℕ) → From h at (opens o ∷ '#' ∷ (smallInteger (members under) ++ (house m under ++ l))) → row + suc (size under) ≤ most
-      → Succeeds (λ r. Same m h (Containers.container o at₀ start end under) (r .0) × From h (r .1) l) (valueAt (suc levels) at row)
-  unfolding Containers.containerBy Containers.counted
+      → Succeeds (λ r. CopyAt m h at (Containers.container o at₀ start end under) (r .0) × From h (r .1) l) (valueAt (suc levels) at row)
+  unfolding Containers.containerBy Containers.counted Containers.container
   list-reads levels o at₀ start end {under} c at row l e s =
       let u : members under ≤ limit = let x = members-few under in omega arith in
       enter levels o at row _ e (row-known h rowsLent at row (omega arith) (byte-known h _ (from-past h (opens o ∷ []) e) (passed _ _ refl (taken _ _ refl
       (integer-known h (members under) u _ (from-past h (opens o ∷ '#' ∷ []) e) λ next e₂.
       after (chain-repeat m h most c next (row + 1) l e₂ (omega arith)) λ r hr.
-      succeeds (list-same m h o at₀ at start next end (r .1) (hr .0), hr .1))))))
+      succeeds (copyAt refl (list-same m h o at₀ at start next end (r .1) (hr .0 .same)) (hr .0 .stand), hr .1))))))
 
   pub list-again : (levels : ℕ) (o : Opening) (at₀ start end : ℕ) {under : Forest} → Chain m h most closers (spaced h (Containers.items h rowsLent o (valueAt levels))) under
       → Reading m h most closers (valueAt (suc levels)) (Containers.container o at₀ start end under)

@@ -29,7 +29,7 @@ use Rattle.meaning.proofs.Known.{Succeeds, succeeds, after, then-known,
 use Rattle.meaning.proofs.Accepted.{Filled}
 use Rattle.meaning.proofs.Layouts as Layouts
 use Rattle.meaning.proofs.Layouts.{SameCut, noSlot, elements-cut}
-use Rattle.meaning.proofs.Chains.{closers, Reading, alone-reading}
+use Rattle.meaning.proofs.Chains.{closers, copyAt, Reading, alone-reading}
 use Rattle.meaning.proofs.Scalars.{none-among, copied-same}
 use Rattle.meaning.proofs.Lists.{enter}
 use Rattle.meaning.proofs.Vectors.{Shapes}
@@ -82,4 +82,4 @@ module _ (m h : List ℕ) (rowsLent most : ℕ) (lent : most ≤ rowsLent) (few 
       (after (p (at + 4) (row + 1) _ (from-past h ('[' ∷ '$' ∷ mark ∷ '#' ∷ []) e₁) (omega arith)) λ r hr.
       rw (hr .0, hr .1) (guard-known _ overLimit at (le-leb (n .many) limit u)
       (filled-known m h start extent (r .1) l c i (elements-cut row₀ row mark (below (n .many))) (hr .3) λ q x.
-      succeeds (copied-same m h packedKind mark at₀ at start (r .1) extent (n .many) (n .order) refl x (hr .2), q)))))))))))
+      succeeds (copyAt refl (copied-same m h packedKind mark at₀ at start (r .1) extent (n .many) (n .order) refl x (hr .2 .same)) (hr .2 .stand), q)))))))))))

@@ -1,7 +1,6 @@
 -- What rewriting answers: a message of the same meaning in house form, which rewriting leaves as it is. Assumes nothing.
 use Prim.Native.Nat.{ℕ, _≤_}
 use mathlib.Core.Path.{_≡_, refl, sym, subst}
-use mathlib.Core.Bool.{Bool, true, false, _&&_, false≢true}
 use mathlib.Core.List.{List}
 use lib.ListN.{length}
 use lib.Dec.{leb}
@@ -11,15 +10,11 @@ use Rattle.format.specs.Limits.{limit}
 use Rattle.format.specs.Tokens.{Forest}
 use Rattle.format.specs.Read.{read}
 use Rattle.format.specs.HouseForm.{house, rewrite}
+use Rattle.format.proofs.Tests.{both-true}
 use Rattle.laws.proofs.Holds.{Holds, holds, bind-law, then-law, guard-law, of-done}
 use Rattle.meaning.specs.Rewriting.{Rewritten, InHouseForm}
 use Rattle.meaning.proofs.Accepting.{self-law, read-finds}
 use Rattle.meaning.proofs.RoundTrip.{round-trip, house-settles}
-
--- both tests pass
-both-true : (a b : Bool) → (a && b) ≡ true → (a ≡ true) × (b ≡ true)
-both-true true b e = (refl, e)
-both-true false b e = absurd (false≢true e)
 
 -- the house form h of the tokens of m, within the room and the limit
 record Written (m : List ℕ) (rowsLent room : ℕ) (h : List ℕ) : Type 0 where

@@ -1,7 +1,7 @@
 -- Writing an accepted message in house form and reading it again gives the same meaning; and rewriting it again changes nothing.
 -- Assumes nothing.
 use Prim.Native.Nat.{ℕ, _≤_}
-use mathlib.Core.Path.{_≡_, refl, sym, _∙_}
+use mathlib.Core.Path.{_≡_, refl, sym, subst, _∙_}
 use mathlib.Core.Bool.{true, false}
 use mathlib.Core.List.{List, [], _++_, append-nil}
 use native.Mathlib.Omega.{arith}
@@ -25,12 +25,13 @@ use Rattle.format.proofs.Noops.{skip-end}
 use Rattle.laws.proofs.Holds.{of-done}
 use Rattle.laws.proofs.Reading.{rows-few}
 use Rattle.meaning.specs.Rewriting.{Rewritten, InHouseForm}
-use Rattle.meaning.proofs.Same.{Same, same-size, same-rows, same-house}
+use Rattle.meaning.specs.Standing.{AllStand}
+use Rattle.meaning.proofs.Same.{same-size, same-rows, same-house}
 use Rattle.meaning.proofs.Known.{Succeeds, succeeds, answer, after, guard-known, From, from-length}
 use Rattle.meaning.proofs.Accepted.{Sort, value, key, kind, group, dimension, pair, spaced, Number, one, many, Accepted, stop, more, both, apart, aScalar, aText, aNumber, aKey, aContainer, aDimension, aPacked, aLeaf, aTextLeaf, aKind, aGroup, aTable, accepted-members}
 use Rattle.meaning.proofs.Accepting.{read-finds}
 use Rattle.meaning.proofs.Chains as Chains
-use Rattle.meaning.proofs.Chains.{closers, Reading, Chain, link, seq-reading, spaced-reading}
+use Rattle.meaning.proofs.Chains.{closers, Copy, Reading, Chain, link, seq-reading, spaced-reading}
 use Rattle.meaning.proofs.Scalars.{scalar-again, text-again, number-again, key-again}
 use Rattle.meaning.proofs.Lists.{list-again}
 use Rattle.meaning.proofs.Vectors.{vectorClosers, dimension-again, shape-again}
@@ -100,7 +101,7 @@ module _ (m h : List ℕ) (rowsLent most : ℕ) (lent : most ≤ rowsLent) (few 
 
 -- the house form of accepted tokens is read as the same
 read-again : (m : List ℕ) (rowsLent : ℕ) (f : Forest) → Accepted m one (value valueLevels) f → size f ≤ rowsLent → size f ≤ limit → length (house m f) ≤ limit
-    → Succeeds (λ g. Same m (house m f) f g) (Read.read (house m f) rowsLent)
+    → Succeeds (λ g. Copy m (house m f) f g) (Read.read (house m f) rowsLent)
 unfolding Read.read Again readerOf avoids Sequences.spaced
 read-again m rowsLent f a lent few u =
     let h : List ℕ = house m f in
@@ -112,19 +113,35 @@ read-again m rowsLent f a lent few u =
     guard-known _ _ _ (eq-eqb _ _ (skip-end h (r .1) (omega arith) ∙ end)) (succeeds (hr .0)))
 
 module _ (m : List ℕ) (rowsLent : ℕ) (f : Forest) (accepted : Read.read m rowsLent ≡ done f) (fits : length (house m f) ≤ limit) where
-  same-tokens : (g : Forest) × (Read.read (house m f) rowsLent ≡ done g) × Same m (house m f) f g
-  same-tokens =
+  copied-tokens : (rows : ℕ) → size f ≤ rows → (g : Forest) × (Read.read (house m f) rows ≡ done g) × Copy m (house m f) f g
+  copied-tokens rows enough =
       let a = of-done f (read-finds m rowsLent) accepted in
       let k = rows-few m rowsLent f accepted in
-      answer (read-again m rowsLent f (a .1) (k .1) (omega arith) fits)
+      answer (read-again m rows f (a .1) enough (omega arith) fits)
 
-  -- The house form of an accepted message, where it fits, is accepted with as many rows, and has the same meaning.
-  pub round-trip : Rewritten m f rowsLent (house m f)
+  -- the rows that were lent are enough
+  lent : size f ≤ rowsLent
+  lent = rows-few m rowsLent f accepted .1
+
+  -- The house form of an accepted message, where it fits, is accepted with any number of rows that holds the message's, and has the
+  -- same meaning.
+  pub round-trip-with : (rows : ℕ) → size f ≤ rows → Rewritten m f rows (house m f)
   unfolding allRows
-  round-trip =
-      let r = same-tokens in
-      record { tokens = r .0; accepted = r .1; meaning = same-rows m (house m f) 0 (r .2); rows-used = same-size m (house m f) (r .2) }
+  round-trip-with rows enough =
+      let r = copied-tokens rows enough in
+      record { tokens = r .0; accepted = r .1; meaning = same-rows m (house m f) 0 (r .2 .same); rows-used = same-size m (house m f) (r .2 .same) }
+
+  -- So it is with the rows that were lent to the message.
+  pub round-trip : Rewritten m f rowsLent (house m f)
+  round-trip = round-trip-with rowsLent lent
 
   -- It is its own house form: rewriting it again changes nothing.
   pub house-settles : InHouseForm (house m f) rowsLent
-  house-settles = let r = same-tokens in record { tokens = r .0; accepted = r .1; own = same-house m (house m f) (r .2) }
+  house-settles = let r = copied-tokens rowsLent lent in record { tokens = r .0; accepted = r .1; own = same-house m (house m f) (r .2 .same) }
+
+  -- Every token of it stands in it as it is written, from its first byte on.
+  pub house-stands : (g : Forest) → Read.read (house m f) rowsLent ≡ done g → AllStand (house m f) g
+  house-stands g e =
+      let r = copied-tokens rowsLent lent in
+      let t : r .0 ≡ g = let x = r .1 in cc in
+      subst (AllStand (house m f)) t (r .2 .stand)

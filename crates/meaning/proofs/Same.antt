@@ -127,7 +127,8 @@ module _ (m h : List ℕ) where
   token-same fixedArray t u under a = refl
   token-same dimension t u under a = rw (a .counted)
 
-  same-written : {f g : Forest} → Same m h f g → written h g ≡ written m f
+  -- tokens that are alike are written alike
+  pub same-written : {f g : Forest} → Same m h f g → written h g ≡ written m f
   unfolding written
   same-written nothing = refl
   same-written (one {t = t} {u = u} {below = b} {below′ = b′} {after = c} {after′ = c′} a s r) =
@@ -136,7 +137,6 @@ module _ (m h : List ℕ) where
       let q : whole (written h c′) ≡ whole (written m c) = ap whole (same-written r) in
       λ i. record { first = p i; rest = q i }
 
-  -- tokens that are alike are written alike
   pub same-house : {f g : Forest} → Same m h f g → house h g ≡ house m f
   unfolding house
   same-house s = ap whole (same-written s)

@@ -17,10 +17,11 @@ use Rattle.format.specs.Sequences.{Reader}
 use Rattle.format.specs.Scalars as Scalars
 use Rattle.format.specs.Read as Read
 use Rattle.format.proofs.MarkFacts.{among-passes}
+use Rattle.meaning.specs.Standing.{noToken}
 use Rattle.meaning.proofs.Same.{Counts, Same, nothing, one}
 use Rattle.meaning.proofs.Numbers.{smallMarks, smallest-passes}
 use Rattle.meaning.proofs.Known.{Succeeds, succeeds, taken, passed, Content, From, from-past, byte-known, oneOf-known, row-known, number-known, integer-known, small-mark, payload-known}
-use Rattle.meaning.proofs.Chains.{closers, Begins, Reading, alone-reading}
+use Rattle.meaning.proofs.Chains.{closers, Begins, CopyAt, copyAt, Reading, alone-reading}
 
 -- what none of a list is
 pub none-among : (p : ℕ → Bool) (l : List ℕ) (x : ℕ) → all (λ k. not (p k)) l ≡ true → among l x ≡ true → p x ≡ false
@@ -80,15 +81,15 @@ module _ (m h : List ℕ) (rowsLent most : ℕ) (lent : most ≤ rowsLent) where
   scalar-again nested mark at₀ start t c = alone-reading m h most (record { head = mark; tail = _; split = refl; fits = scalar-begins mark t }) λ at row l e s.
       byte-known h _ e (taken _ _ t (row-known h rowsLent at row (omega arith)
       (payload-known h m mark start (width mark) l _ c (from-past h (mark ∷ []) e) λ e′ x.
-      succeeds (copied-same m h scalar mark at₀ at start _ (width mark) 0 0 refl x nothing, e′))))
+      succeeds (copyAt refl (copied-same m h scalar mark at₀ at start _ (width mark) 0 0 refl x nothing) noToken, e′))))
 
   -- `S` or `H`, its length and its bytes
   text-reads : (kind : Kind) (mark at₀ start n : ℕ) → hasBytes (kindNumber kind) ≡ true → n ≤ limit → Content m mark start n → (at row : ℕ) (l : List ℕ)
       → From h at (mark ∷ (smallInteger n ++ (bytes m start n ++ l))) → row < rowsLent
-      → Succeeds (λ r. Same m h (alone (uncounted kind mark at₀ start n)) (r .0) × From h (r .1) l) (Scalars.text h rowsLent kind mark at row)
+      → Succeeds (λ r. CopyAt m h at (alone (uncounted kind mark at₀ start n)) (r .0) × From h (r .1) l) (Scalars.text h rowsLent kind mark at row)
   unfolding Scalars.text
   text-reads kind mark at₀ start n b u c at row l e s = row-known h rowsLent at row s (integer-known h n u _ (from-past h (mark ∷ []) e) λ next e₁.
-      payload-known h m mark start n l _ c e₁ λ e₂ x. succeeds (copied-same m h kind mark at₀ at start next n 0 0 b x nothing, e₂))
+      payload-known h m mark start n l _ c e₁ λ e₂ x. succeeds (copyAt refl (copied-same m h kind mark at₀ at start next n 0 0 b x nothing) noToken, e₂))
 
   pub text-again : (nested : Opening → Reader) (at₀ start n : ℕ) → n ≤ limit → Content m 'S' start n → Value nested (alone (uncounted text 'S' at₀ start n))
   unfolding token payloadOf Read.valueBy size isScalar types integers among closers hasBytes
@@ -107,4 +108,4 @@ module _ (m h : List ℕ) (rowsLent most : ℕ) (lent : most ≤ rowsLent) where
   key-again at₀ start n u c = alone-reading m h most (small-begins closers n (bytes m start n) refl) λ at row l e s.
       let e₁ : From h at (smallInteger n ++ (bytes m start n ++ l)) = subst (From h at) (append-assoc (smallInteger n) _ l) e in
       oneOf-known h _ _ e₁ (small-mark h n u) (row-known h rowsLent at row (omega arith) (number-known h n u at _ (from-past h (smallest n ∷ []) e₁) λ next e₂.
-      payload-known h m 'S' start n l _ c e₂ λ e₃ x. succeeds (copied-same m h key 'S' at₀ at start next n 0 0 refl x nothing, e₃)))
+      payload-known h m 'S' start n l _ c e₂ λ e₃ x. succeeds (copyAt refl (copied-same m h key 'S' at₀ at start next n 0 0 refl x nothing) noToken, e₃)))

@@ -15,12 +15,13 @@ use Rattle.format.specs.Sequences.{Reader, _⨾_}
 use Rattle.format.specs.Scalars as Scalars
 use Rattle.format.specs.Schemas as Schemas
 use Rattle.laws.proofs.Schemas.{groupKind, Members}
+use Rattle.meaning.specs.Standing.{noToken}
 use Rattle.meaning.proofs.Same.{Same, nothing, one, same-members}
 use Rattle.meaning.proofs.Known.{Succeeds, succeeds, after, guard-known, taken, passed, From, from-past, byte-known, row-known, integer-known}
 use Rattle.meaning.proofs.Accepted.{group, Accepted, aGroup}
 use Rattle.meaning.proofs.Accepted as Accepted
 use Rattle.meaning.proofs.Layouts.{members-schematic, same-width}
-use Rattle.meaning.proofs.Chains.{closers, Begins, Reading, Chain, alone-reading, begun, house-append, begins-append, differs, chain-some}
+use Rattle.meaning.proofs.Chains.{closers, Begins, CopyAt, copyAt, Reading, Chain, alone-reading, begun, house-append, begins-append, differs, chain-some}
 use Rattle.meaning.proofs.Scalars.{none-among}
 
 -- ---- leaves
@@ -85,14 +86,14 @@ module _ (m h : List ℕ) (rowsLent most : ℕ) (lent : most ≤ rowsLent) where
   unfolding Schemas.leaf token Schemas.kindBy Schemas.plainLeaf size
   leaf-again nested mark at₀ t = alone-reading m h most (record { head = mark; tail = _; split = refl; fits = leaf-begins mark t }) λ at row l e s.
       let e₁ : From h at (mark ∷ l) = subst (λ x. From h at (x ++ l)) (plain-written mark (smallInteger (leafWidth mark)) t) e in
-      byte-known h _ e₁ (taken _ _ t (row-known h rowsLent at row (omega arith) (succeeds (leaf-same m h mark at₀ at (leafWidth mark), from-past h (mark ∷ []) e₁))))
+      byte-known h _ e₁ (taken _ _ t (row-known h rowsLent at row (omega arith) (succeeds (copyAt refl (leaf-same m h mark at₀ at (leafWidth mark)) noToken, from-past h (mark ∷ []) e₁))))
 
   pub text-leaf-again : (nested : Opening → Reader) (at₀ n : ℕ) → n ≤ limit → Kind nested (Schemas.leaf 'S' at₀ n)
   unfolding Schemas.leaf token Schemas.kindBy Schemas.textLeaf size isPlainLeaf types integers among closers
   text-leaf-again nested at₀ n u = alone-reading m h most (record { head = 'S'; tail = _; split = refl; fits = refl }) λ at row l e s.
       let e₁ : From h at ('S' ∷ (smallInteger n ++ l)) = subst (λ x. From h at (x ++ l)) (text-written (smallInteger n)) e in
       byte-known h _ e₁ (passed _ _ refl (taken _ _ refl (row-known h rowsLent at row (omega arith)
-      (integer-known h n u _ (from-past h ('S' ∷ []) e₁) λ next e₂. succeeds (leaf-same m h 'S' at₀ at n, e₂)))))
+      (integer-known h n u _ (from-past h ('S' ∷ []) e₁) λ next e₂. succeeds (copyAt refl (leaf-same m h 'S' at₀ at n) noToken, e₂)))))
 
   -- a nested schema or fixed array is a kind
   pub kind-again : (nested : Opening → Reader) {levels : ℕ} (o : Opening) {f : Forest} → Accepted m Accepted.one (group levels o) f → Reading m h most closers (nested o) f → Kind nested f
@@ -116,10 +117,10 @@ module _ (m h : List ℕ) (rowsLent most : ℕ) (lent : most ≤ rowsLent) where
   enclosed-again : (o : Opening) (at₀ : ℕ) {item : Reader} {f g : Forest} {k due : Bool} → Members k due (f ⊕ g) → among closers (closes o) ≡ true
       → Reading m h most closers item f → Chain m h most closers item g → (at row : ℕ) (l : List ℕ)
       → From h (at + 1) (house m (f ⊕ g) ++ closes o ∷ l) → row + suc (size (f ⊕ g)) ≤ most
-      → Succeeds (λ r. Same m h (Schemas.group (groupKind o) o at₀ (f ⊕ g)) (r .0) × From h (r .1) l) (Schemas.enclosed h rowsLent (groupKind o) o item at row)
-  unfolding Schemas.enclosed
+      → Succeeds (λ r. CopyAt m h at (Schemas.group (groupKind o) o at₀ (f ⊕ g)) (r .0) × From h (r .1) l) (Schemas.enclosed h rowsLent (groupKind o) o item at row)
+  unfolding Schemas.enclosed Schemas.group
   enclosed-again o at₀ u t p c at row l e s = after (chain-some m h most (closes o) t p c (at + 1) (row + 1) l e (omega arith)) λ r hr.
-      succeeds (group-same m h o at₀ at u (hr .0), from-past h (closes o ∷ []) (hr .1))
+      succeeds (copyAt refl (group-same m h o at₀ at u (hr .0 .same)) (hr .0 .stand), from-past h (closes o ∷ []) (hr .1))
 
   pub fixed-again : (kind : Reader) (at₀ : ℕ) {f g : Forest} → Members false false (f ⊕ g) → Reading m h most closers kind f → Chain m h most closers kind g
       → Reading m h most closers (Schemas.fixed h rowsLent kind) (Schemas.group (groupKind bracket) bracket at₀ (f ⊕ g))

@@ -25,11 +25,11 @@ use Rattle.format.proofs.Forests.{size-append}
 use Rattle.laws.proofs.Schemas.{Group, group-one}
 use Rattle.laws.proofs.Order.{size-placed}
 use Rattle.laws.proofs.Slots.{Inside, inside-widen, records-inside, length-count, members-measured, below-measured, below-narrower}
-use Rattle.meaning.proofs.Same.{Same, same-size, same-append}
+use Rattle.meaning.proofs.Same.{same-size}
 use Rattle.meaning.proofs.Known.{Succeeds, succeeds, after, guard-known, taken, From, from-past, byte-known, oneOf-known, row-known}
 use Rattle.meaning.proofs.Accepted.{one, group, Accepted, Filled}
-use Rattle.meaning.proofs.Layouts.{Schematic, members-schematic, same-width, records-cut, schematic-below, same-below, same-placed, schema-written}
-use Rattle.meaning.proofs.Chains.{closers, Reading, alone-reading}
+use Rattle.meaning.proofs.Layouts.{Schematic, members-schematic, same-width, records-cut, schematic-below, same-below, same-placed, schematic-same, all-placed, schema-written}
+use Rattle.meaning.proofs.Chains.{closers, CopyAt, copyAt, copy-append, Reading, alone-reading}
 use Rattle.meaning.proofs.Scalars.{copied-same}
 use Rattle.meaning.proofs.Lists.{enter, opens-begins}
 use Rattle.meaning.proofs.Vectors.{Shapes}
@@ -59,7 +59,7 @@ module _ (m h : List ℕ) (rowsLent most : ℕ) (lent : most ≤ rowsLent) (few 
       → (at row : ℕ) (l : List ℕ)
       → From h at (opens o ∷ '$' ∷ (house m s ++ '#' ∷ (shape (n .order) (n .many) (house m (n .dimensions)) ++ (bytes m start (n .many * totalWidth s) ++ l))))
       → row + suc (size s + size (n .dimensions)) ≤ most
-      → Succeeds (λ r. Same m h (Containers.stored tableKind (opens o) at₀ start (n .many * totalWidth s) n (placed 0 s ⊕ n .dimensions)) (r .0) × From h (r .1) l)
+      → Succeeds (λ r. CopyAt m h at (Containers.stored tableKind (opens o) at₀ start (n .many * totalWidth s) n (placed 0 s ⊕ n .dimensions)) (r .0) × From h (r .1) l)
       (Read.valueBy h rowsLent (Read.nested h rowsLent (suc levels)) at row)
   unfolding Containers.containerBy Containers.typed Containers.table Schemas.tableSchema Containers.stored hasBytes among opens
   table-reads levels o at₀ start row₀ {s} n a g p v u q c at row l e z =
@@ -70,12 +70,13 @@ module _ (m h : List ℕ) (rowsLent most : ℕ) (lent : most ≤ rowsLent) (few 
       (byte-known h _ (subst (λ b. From h (at + 2) (b ++ '#' ∷ (shape (n .order) (n .many) (house m (n .dimensions)) ++ (bytes m start extent ++ l)))) (group-begins m a .1) e₂) (taken _ _ refl
       (after (p .reads (at + 2) (row + 1) _ e₂ (omega arith)) λ r hr.
       oneOf-known h _ _ (hr .1) refl
-      (after (q (r .1 + 1) (row + 1 + size (r .0)) _ (from-past h ('#' ∷ []) (hr .1)) (omega (arith, same-size m h (hr .0)))) λ f hf.
-      rw (hf .0, hf .1, same-width m h d (hr .0))
+      (after (q (r .1 + 1) (row + 1 + size (r .0)) _ (from-past h ('#' ∷ []) (hr .1)) (omega (arith, same-size m h (hr .0 .same)))) λ f hf.
+      rw (hf .0, hf .1, same-width m h d (hr .0 .same))
       (guard-known _ overLimit at (le-leb (n .many) limit u) (guard-known _ overLimit at (le-leb (totalWidth s) recordLimit v)
       (filled-known m h start extent (f .1) l c (slots-inside o (memberRow row₀) (n .many) g)
-      (records-cut m h o (schematic-below m h d) (same-below m h (hr .0)) (memberRow row₀) (memberRow row) (below (n .many))) (hf .3) λ w x.
-      succeeds (copied-same m h tableKind (opens o) at₀ at start (f .1) extent (n .many) (n .order) refl x (same-append m h (same-placed m h d (hr .0) 0) (hf .2)), w)))))))))))
+      (records-cut m h o (schematic-below m h d) (same-below m h (hr .0 .same)) (memberRow row₀) (memberRow row) (below (n .many))) (hf .3) λ w x.
+      let under = copy-append (record { same = same-placed m h d (hr .0 .same) 0; stand = all-placed h (schematic-same m h d (hr .0 .same)) (hr .0 .stand) 0 }) (hf .2) in
+      succeeds (copyAt refl (copied-same m h tableKind (opens o) at₀ at start (f .1) extent (n .many) (n .order) refl x (under .same)) (under .stand), w)))))))))))
 
   pub table-again : (levels : ℕ) (o : Opening) (at₀ start row₀ : ℕ) {s : Forest} (n : Shape) → Accepted m one (group schemaLevels brace) s → Group brace s
       → Reading m h most closers (Schemas.nested h rowsLent schemaLevels brace) s → totalWidth s ≤ recordLimit

@@ -16,11 +16,12 @@ use Rattle.format.specs.SameMeaning.{free, hasBytes}
 use Rattle.format.specs.Dimensions as Dimensions
 use Rattle.format.proofs.Forests.{members-append}
 use Rattle.laws.proofs.Counts.{Vector, Shaped, plain, vector, highestOrder}
-use Rattle.meaning.proofs.Same.{Same, nothing, one, same-counts}
+use Rattle.meaning.specs.Standing.{noToken}
+use Rattle.meaning.proofs.Same.{nothing, one, same-counts}
 use Rattle.meaning.proofs.Numbers.{smallest-passes}
 use Rattle.meaning.proofs.Known.{Succeeds, succeeds, after, taken, passed, From, from-past, byte-known, oneOf-known, row-known, number-known, integer-known, small-mark}
 use Rattle.meaning.proofs.Accepted.{dimensionToken}
-use Rattle.meaning.proofs.Chains.{closers, Begins, Reading, Chain, stop, link, alone-reading, house-append, house-split, begins-append, begun, differs, seq-same, chain-listed, members-few}
+use Rattle.meaning.proofs.Chains.{closers, Begins, Copy, no-copy, copyAt, Reading, Chain, stop, link, alone-reading, house-append, house-split, begins-append, begun, differs, seq-same, chain-listed, members-few}
 use Rattle.meaning.proofs.Scalars.{small-begins}
 
 -- no dimension begins with one of these
@@ -50,7 +51,7 @@ module _ (m h : List ℕ) (rowsLent most : ℕ) (lent : most ≤ rowsLent) where
   dimension-again mark at₀ start n u = alone-reading m h most (rw (← append-nil (smallInteger n)) (small-begins vectorClosers n [] refl)) λ at row l e s.
       oneOf-known h _ _ e (small-mark h n u) (row-known h rowsLent at row (omega arith) (number-known h n u at _ (from-past h (smallest n ∷ []) e) λ next e₂.
       succeeds (
-        one (record {
+        copyAt refl (one (record {
           kinds = refl;
           marks = λ c. absurd (false≢true (sym c));
           payloads = λ c. absurd (false≢true (sym c));
@@ -58,7 +59,7 @@ module _ (m h : List ℕ) (rowsLent most : ℕ) (lent : most ≤ rowsLent) where
           counted = refl;
           orders = refl;
           contents = λ b. absurd (false≢true b);
-        }) nothing nothing,
+        }) nothing nothing) noToken,
         e₂,
       )))
 
@@ -72,7 +73,7 @@ module _ (m h : List ℕ) (rowsLent most : ℕ) (lent : most ≤ rowsLent) where
 
   vector-again : {dims : Forest} → Vector 1 dimensionLimit dims → Dimensioned dims → (place at row : ℕ) (l : List ℕ)
       → From h at (house m dims ++ ']' ∷ l) → row + size dims ≤ most
-      → Succeeds (λ r. Same m h dims (r .0) × From h (r .1) l) (Dimensions.vector h rowsLent place at row)
+      → Succeeds (λ r. Copy m h dims (r .0) × From h (r .1) l) (Dimensions.vector h rowsLent place at row)
   unfolding Dimensions.vector vectorClosers closers among size
   vector-again v stop place at row l e s = absurd (let x = v .enough in omega arith)
   vector-again v (link {f = f} {g = g} n p c) place at row l e s =
@@ -88,7 +89,7 @@ module _ (m h : List ℕ) (rowsLent most : ℕ) (lent : most ≤ rowsLent) where
   -- a count as it is written is read again, with the same dimensions
   abbrev pub Shapes : Bool → ℕ → ℕ → Forest → Type 0
   Shapes mayWrap order n dims = (at row : ℕ) (l : List ℕ) → From h at (shape order n (house m dims) ++ l) → row + size dims ≤ most
-      → Succeeds (λ r. (r .0 .many ≡ n) × (r .0 .order ≡ order) × Same m h dims (r .0 .dimensions) × From h (r .1) l) (Dimensions.shape h rowsLent mayWrap at row)
+      → Succeeds (λ r. (r .0 .many ≡ n) × (r .0 .order ≡ order) × Copy m h dims (r .0 .dimensions) × From h (r .1) l) (Dimensions.shape h rowsLent mayWrap at row)
 
   not-wrapped : (a b : Bool) → a ≡ false → (a && b) ≡ false
   not-wrapped a b e = rw e
@@ -97,7 +98,7 @@ module _ (m h : List ℕ) (rowsLent most : ℕ) (lent : most ≤ rowsLent) where
   unfolding Dimensions.shape Dimensions.plain smallInteger all
   count-again mayWrap n u at row l e s =
       let e₁ : From h at (smallInteger n ++ l) = subst (λ x. From h at (x ++ l)) (plain-shape n (house m none)) e in
-      byte-known h _ e₁ (taken _ _ (smallest-passes (λ k. not (eqb k '[')) n refl) (integer-known h n u _ e₁ λ next e₂. succeeds (refl, refl, nothing, e₂)))
+      byte-known h _ e₁ (taken _ _ (smallest-passes (λ k. not (eqb k '[')) n refl) (integer-known h n u _ e₁ λ next e₂. succeeds (refl, refl, no-copy m h, e₂)))
 
   slowest-again : (mayWrap : Bool) {dims : Forest} → Vector 1 dimensionLimit dims → Dimensioned dims → Shapes mayWrap firstSlowest (product (counts dims)) dims
   unfolding Dimensions.shape Dimensions.slowest Dimensions.shaped vectorClosers closers among
@@ -106,7 +107,7 @@ module _ (m h : List ℕ) (rowsLent most : ℕ) (lent : most ≤ rowsLent) where
       let o = chain-begins (v .enough) c in
       byte-known h _ e₁ (passed _ _ refl (byte-known h _ (begun m h most o _ (from-past h ('[' ∷ []) e₁))
       (passed _ _ (not-wrapped (eqb (o .head) '[') mayWrap (differs vectorClosers (o .head) '[' refl (o .fits)))
-      (after (vector-again v c at (at + 1) row l (from-past h ('[' ∷ []) e₁) s) λ r hr. succeeds (ap product (same-counts m h (hr .0)), refl, hr .0, hr .1)))))
+      (after (vector-again v c at (at + 1) row l (from-past h ('[' ∷ []) e₁) s) λ r hr. succeeds (ap product (same-counts m h (hr .0 .same)), refl, hr .0, hr .1)))))
 
   fastest-again : {dims : Forest} → Vector 1 dimensionLimit dims → Dimensioned dims → Shapes true firstFastest (product (counts dims)) dims
   unfolding Dimensions.shape Dimensions.fastest Dimensions.shaped
@@ -114,7 +115,7 @@ module _ (m h : List ℕ) (rowsLent most : ℕ) (lent : most ≤ rowsLent) where
       let e₁ : From h at ('[' ∷ '[' ∷ (house m dims ++ ']' ∷ ']' ∷ l)) = subst (From h at) (fastest-shape (product (counts dims)) (house m dims) l) e in
       byte-known h _ e₁ (passed _ _ refl (byte-known h _ (from-past h ('[' ∷ []) e₁) (taken _ _ refl
       (after (vector-again v c at (at + 2) row (']' ∷ l) (from-past h ('[' ∷ '[' ∷ []) e₁) s) λ r hr.
-      oneOf-known h _ _ (hr .1) refl (succeeds (ap product (same-counts m h (hr .0)), refl, hr .0, from-past h (']' ∷ []) (hr .1)))))))
+      oneOf-known h _ _ (hr .1) refl (succeeds (ap product (same-counts m h (hr .0 .same)), refl, hr .0, from-past h (']' ∷ []) (hr .1)))))))
 
   pub shape-again : (mayWrap : Bool) {order n : ℕ} {dims : Forest} → Shaped (highestOrder mayWrap) order n dims → n ≤ limit → Dimensioned dims → Shapes mayWrap order n dims
   shape-again mayWrap (plain {n = n}) u c = count-again mayWrap n u

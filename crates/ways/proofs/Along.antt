@@ -1,7 +1,7 @@
 -- A row on the way: an equation for each way through `along`, and what its answer tells. Assumes nothing.
 use Prim.Native.Nat.{ℕ, _≤_, _<_}
 use mathlib.Core.Path.{_≡_, refl, sym, subst, _∙_}
-use mathlib.Core.Bool.{Bool, true, false, _&&_, false≢true}
+use mathlib.Core.Bool.{Bool, true, false, _&&_}
 use mathlib.Core.List.{List}
 use native.Mathlib.Omega.{arith}
 use lib.Dec.{leb, ltb}
@@ -10,11 +10,7 @@ use Rattle.format.specs.Outcome.{Outcome, fault, done, guard, _>>_}
 use Rattle.format.specs.Refusals.{rowsDontFit}
 use Rattle.format.specs.Rows.{Row, rowAt}
 use Rattle.format.specs.Addresses.{along}
-
-both : (a b : Bool) → (a && b) ≡ true → (a ≡ true) × (b ≡ true)
-both true true h = (refl, refl)
-both true false h = absurd (false≢true h)
-both false b h = absurd (false≢true h)
+use Rattle.format.proofs.Tests.{both-true}
 
 module _ (ws : List ℕ) (fits : Row → Bool) (stop row : ℕ) where
   -- it does not stand before `stop`
@@ -65,11 +61,11 @@ module _ (ws : List ℕ) (fits : Row → Bool) (stop row : ℕ) where
       go false p b q = stuck
       go true p false q = stuck
       go true p true q = follows record {
-        before = ltb-true row stop (both (ltb row stop) (fits (rowAt ws row)) p .0);
-        fit = both (ltb row stop) (fits (rowAt ws row)) p .1;
+        before = ltb-true row stop (both-true (ltb row stop) (fits (rowAt ws row)) p .0);
+        fit = both-true (ltb row stop) (fits (rowAt ws row)) p .1;
         link = refl;
-        up = ltb-true row (rowAt ws row .link) (both (ltb row (rowAt ws row .link)) (leb (rowAt ws row .link) stop) q .0);
-        inside = leb-true (rowAt ws row .link) stop (both (ltb row (rowAt ws row .link)) (leb (rowAt ws row .link) stop) q .1);
+        up = ltb-true row (rowAt ws row .link) (both-true (ltb row (rowAt ws row .link)) (leb (rowAt ws row .link) stop) q .0);
+        inside = leb-true (rowAt ws row .link) stop (both-true (ltb row (rowAt ws row .link)) (leb (rowAt ws row .link) stop) q .1);
       }
 
   pub followed : (next : ℕ) → along ws fits stop row ≡ done next → Followed next
