@@ -1,6 +1,6 @@
--- The little-endian number of some bytes: its lowest byte, its bound, and its highest bit. Assumes nothing.
-use Prim.Native.Nat.{ℕ, zero, suc, _+_, _*_, _^_, _≤_, _<_}
-use mathlib.Core.Path.{_≡_}
+-- The little-endian number of some bytes: its lowest byte, its bound, and its highest bit; the bytes of a number. Assumes nothing.
+use Prim.Native.Nat.{ℕ, zero, suc, _+_, _*_, _/_, _^_, _≤_, _<_}
+use mathlib.Core.Path.{_≡_, refl, ap}
 use mathlib.Core.List.{List, [], _∷_}
 use mathlib.Core.Logic.{_↔_}
 use native.Mathlib.Omega.{arith}
@@ -9,6 +9,7 @@ use native.Mathlib.Numerals.{add-one}
 use lib.ListN.{length, getD, take, drop, length-drop}
 use lib.Seq.{drop-cons, getD-drop}
 use Rattle.format.specs.Bytes.{little, bytes}
+use Rattle.format.specs.HouseForm.{digits}
 
 -- every number of the list is a byte
 abbrev pub Small : List ℕ → Type 0
@@ -56,3 +57,9 @@ pub little-sign : (m : List ℕ) (at n : ℕ) → Small m → at + n < length m
 unfolding bytes
 little-sign m at n s h =
     rw (← getD-drop at m n 0) (top-bit n (drop at m) (drop-small at m s) (rw (length-drop at m) (omega arith)))
+
+-- as many bytes as were asked for
+pub length-digits : (k n : ℕ) → length (digits k n) ≡ k
+unfolding digits
+length-digits zero n = refl
+length-digits (suc k) n = ap suc (length-digits k (n / 256))

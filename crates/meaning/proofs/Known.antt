@@ -23,7 +23,8 @@ use Rattle.format.specs.Sequences.{Reader, rowLeft, spaced}
 use Rattle.format.proofs.Noops.{skip-here}
 use Rattle.format.proofs.IntegerCases.{number-done}
 use Rattle.format.proofs.Parts.{length-bytes}
-use Rattle.meaning.proofs.Numbers.{length-digits, little-digits, smallest-passes, smallest-holds}
+use Rattle.format.proofs.Little.{length-digits}
+use Rattle.meaning.proofs.Numbers.{little-digits, smallest-passes, smallest-holds}
 
 -- an answer that isn't a refusal, and of which P holds
 pub data Succeeds {A : Type 0} (P : A → Type 0) : Outcome A → Type 0 where

@@ -18,11 +18,6 @@ use Rattle.format.proofs.MarkFacts.{among-passes}
 
 -- ---- digits
 
-pub length-digits : (k n : ℕ) → length (digits k n) ≡ k
-unfolding digits
-length-digits zero n = refl
-length-digits (suc k) n = ap suc (length-digits k (n / 256))
-
 -- a number that so many bytes hold
 pub little-digits : (k n : ℕ) → n < 256 ^ k → little (digits k n) ≡ n
 unfolding digits little

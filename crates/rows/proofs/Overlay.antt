@@ -27,7 +27,8 @@ sets-comm [] b l i j h = refl
 sets-comm (x ∷ a) b l i j h =
     ap (λ t. sets t (suc i) a) (set-sets b l j i x (omega arith)) ∙ sets-comm a b (set l i x) (suc i) j (omega arith)
 
-sets-append : (a b l : List ℕ) (i : ℕ) → sets (sets l i a) (i + length a) b ≡ sets l i (a ++ b)
+-- one run of stores after another
+pub sets-append : (a b l : List ℕ) (i : ℕ) → sets (sets l i a) (i + length a) b ≡ sets l i (a ++ b)
 sets-append [] b l i = ap (λ j. sets l j b) (omega arith)
 sets-append (x ∷ a) b l i =
     ap (λ j. sets (sets (set l i x) (suc i) a) j b) (omega arith) ∙ sets-append a b (set l i x) (suc i)
