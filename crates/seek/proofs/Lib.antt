@@ -6,3 +6,4 @@ pub mod Walking
 pub mod Loops
 pub mod Members
 pub mod Message
+pub mod Standing
