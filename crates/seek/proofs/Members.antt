@@ -22,7 +22,7 @@ use Rattle.reader.specs.Items.{Opened}
 use Rattle.seek.specs.Walks.{Comes, Walks}
 use Rattle.seek.specs.declared.steps.Sought.{Sought}
 use Rattle.seek.specs.declared.steps.Sought.the-variants.{Past}
-use Rattle.seek.proofs.Tableless.{Tableless, none-tableless, container-untabled, items-tableless}
+use Rattle.seek.proofs.Tableless.{Tableless, none-tableless, container-no-table, items-tableless}
 use Rattle.seek.proofs.Back.{no-fault, bind-back, parts}
 use Rattle.seek.proofs.Walking.{comes-on, comes-under, passed-none}
 
@@ -33,7 +33,7 @@ unfolding closed container _>>=_
 closed-walks r m opening at start shut row left (fault n p) w f next e = no-fault (fault n p) n p (f, next) refl e
 closed-walks r m opening at start shut row left (done u) w f next e =
     let q = parts e in
-    rw (← q .0, ← q .1) (comes-under m r row left _ (u .0) (u .1 + shut) (container-untabled opening) (w (u .0) (u .1) refl))
+    rw (← q .0, ← q .1) (comes-under m r row left _ (u .0) (u .1 + shut) (container-no-table opening) (w (u .0) (u .1) refl))
 
 -- over what remains, after tokens with no table
 onto-walks : (r : Sought) (m : List ℕ) (row row′ left : ℕ) (f : Forest) (o : Parsed Forest) → Tableless f → row′ ≡ row + size f

@@ -1,10 +1,10 @@
 -- The tables of one forest and then another, and picking one of them. Assumes nothing.
 use Prim.Native.Nat.{ℕ, zero, suc, _+_}
-use mathlib.Core.Path.{_≡_}
+use mathlib.Core.Path.{_≡_, ap, _∙_}
 use mathlib.Core.List.{List, [], _∷_, _++_, append-assoc}
 use native.Mathlib.Omega.{arith}
 use native.Mathlib.Nat.{add-zero}
-use lib.ListN.{length}
+use lib.ListN.{length, length-append}
 use Rattle.format.specs.Outcome.{done}
 use Rattle.format.specs.Tokens.{Forest, none, node, size, _⊕_}
 use Rattle.format.specs.Panel.{tables, pick}
@@ -15,6 +15,9 @@ tables-append n none g = rw add-zero
 tables-append n (node t below after) g =
     let e : suc n + size below + size after ≡ n + suc (size below + size after) = omega arith in
     simp (tables-append (suc n + size below) after g, e, append-assoc)
+
+pub tables-length : (n : ℕ) (f g : Forest) → length (tables n (f ⊕ g)) ≡ length (tables n f) + length (tables (n + size f) g)
+tables-length n f g = ap length (tables-append n f g) ∙ length-append (tables n f) (tables (n + size f) g)
 
 -- one of the first list
 pub pick-first : {A : Type 0} (l k : List A) (i : ℕ) (a : A) → pick l i ≡ done a → pick (l ++ k) i ≡ done a

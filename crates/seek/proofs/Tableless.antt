@@ -44,10 +44,10 @@ shaped-tableless plain = none-tableless
 shaped-tableless (vector _ _ v) = dimensions-tableless (v .dimensioned)
 
 -- an array's or object's token isn't a table
-pub container-untabled : (o : Opening) → isKind tableKind (containerKind o) ≡ false
+pub container-no-table : (o : Opening) → isKind tableKind (containerKind o) ≡ false
 unfolding containerKind isKind
-container-untabled bracket = refl
-container-untabled brace = refl
+container-no-table bracket = refl
+container-no-table brace = refl
 
 -- one table, which begins here
 pub data OneTable (at : ℕ) : Forest → Type 0 where
@@ -104,7 +104,7 @@ module _ (m : List ℕ) (lent : ℕ) where
   counted-tableless : (o : Opening) (item : Reader) (from : ℕ) → Gives Tableless item → Gives Tableless (counted m lent o item from)
   unfolding counted container
   counted-tableless o item from p at row = bind-law (any-law _) λ n _. bind-law (repeat-tableless (n .0) item p _ _) λ r s.
-      holds (over-tableless _ _ none (container-untabled o) s none-tableless)
+      holds (over-tableless _ _ none (container-no-table o) s none-tableless)
 
   -- a packed array or a typed object
   pub typedAs-tableless : (o : Opening) (type : ℕ) → Gives Tableless (typedAs m lent o type)

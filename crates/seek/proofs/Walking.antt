@@ -1,12 +1,12 @@
 -- How a walk goes on: over what was passed, into a container, and over members one after another. Assumes nothing.
 use Prim.Native.Nat.{ℕ, suc, _+_, _≤_}
-use mathlib.Core.Path.{_≡_, refl, sym, ap, _∙_}
+use mathlib.Core.Path.{_≡_, refl, sym, _∙_}
 use mathlib.Core.Bool.{false}
 use mathlib.Core.List.{List, [], _∷_, append-nil}
 use native.Mathlib.Omega.{arith}
 use types.Run.{OneOf, miss}
 use denote.Enum.Declared.{tagOf}
-use lib.ListN.{length, length-append}
+use lib.ListN.{length}
 use Rattle.format.specs.Conditions.{if_then_else_}
 use Rattle.format.specs.Outcome.{Parsed, done}
 use Rattle.format.specs.Marks.{Opening}
@@ -20,7 +20,7 @@ use Rattle.seek.specs.Walks.{Passed, Comes, SoughtWithin}
 use Rattle.seek.specs.declared.steps.Sought.{Sought}
 use Rattle.seek.specs.declared.steps.Sought.the-variants.{Refused, Past, Table}
 use Rattle.seek.proofs.steps.Sought.{the-type}
-use Rattle.seek.proofs.Picking.{tables-append, pick-first, pick-past}
+use Rattle.seek.proofs.Picking.{tables-append, tables-length, pick-first, pick-past}
 use Rattle.seek.proofs.Tableless.{Tableless, none-tableless}
 use Rattle.seek.proofs.Back.{Both}
 
@@ -59,8 +59,7 @@ module _ (m : List ℕ) where
       → Comes s m (row + size f) left′ g next → Comes s m row left (f ⊕ g) next
   comes-on Refused row left left′ f g next e c = c
   comes-on (Past next′ row′ left″) row left left′ f g next e c =
-      let k = ap length (tables-append row f g) ∙ length-append (tables row f) (tables (row + size f) g) in
-      record { ended = c .ended; took = omega (arith, c .took, size-append f g); fewer = omega (arith, c .fewer) }
+      record { ended = c .ended; took = omega (arith, c .took, size-append f g); fewer = omega (arith, c .fewer, tables-length row f g) }
   comes-on (Table b first row′) row left left′ f g next e c = found-later row left left′ f g e c
 
   -- tokens with no table are passed
@@ -109,14 +108,13 @@ module _ {first number : ℕ} {f : Forest} {end : ℕ} {remains : Parsed Forest}
     -- one more is passed
     pub ahead-step : (next row′ left′ : ℕ) → Passed row left (b .first) (b .next) next row′ left′ → Ahead first number f end (other next row′) row′ left′
     ahead-step next row′ left′ p =
-        let k = ap length (tables-append first (a .before) (b .first)) ∙ length-append (tables first (a .before)) (tables (first + size (a .before)) (b .first)) in
         record {
           before = a .before ⊕ b .first;
           rest = b .rest;
           gives = rw (p .ended, p .took) (b .others);
           whole = a .whole ∙ rw (b .whole) (sym (⊕-assoc (a .before) (b .first) (b .rest)));
           took = omega (arith, p .took, a .took, size-append (a .before) (b .first));
-          fewer = omega (arith, a .fewer, rw (a .took) at (p .fewer));
+          fewer = omega (arith, a .fewer, rw (a .took) at (p .fewer), tables-length first (a .before) (b .first));
         }
 
     -- the walk ends in the next

@@ -1,5 +1,5 @@
 // Finds a table of an accepted message by its number, counted in message order, with no row table. One walk over the message, in the
-// reader's shape: what holds no table is read by the reader's own leaves, and an array or object is gone into, never read first.
+// reader's shape: the reader's leaves read what holds no others, and arrays and objects are walked into without being read before.
 use crate::nest::member;
 use crate::steps::Sought;
 use format::limits::LIMIT;
