@@ -7,3 +7,4 @@ pub mod Loops
 pub mod Members
 pub mod Message
 pub mod Standing
+pub mod Counting

@@ -16,7 +16,7 @@ use Rattle.tokens.specs.declared.Step.{Step}
 use Rattle.tokens.specs.declared.Step.the-variants.{Fault, Next}
 use Rattle.seek.specs.Tables.{Found}
 use Rattle.seek.specs.Walks.{passed, Walks, SoughtWithin}
-use Rattle.seek.proofs.Tableless.{OneTable, oneTable, table-gives, typedAs-tableless}
+use Rattle.seek.proofs.Tableless.{OneTable, oneTable, table-gives, no-tables, typedAs-tableless}
 use Rattle.seek.proofs.Back.{no-fault, parts}
 
 pub passed-within : (s : Step) (left low high : ℕ) → Within s low high high → SoughtWithin (passed s left) low high
@@ -53,4 +53,4 @@ module _ (m : List ℕ) (opening : Opening) (at row : ℕ) where
 pub typed-counts : (m : List ℕ) (opening : Opening) (type at row left : ℕ) (f : Forest) (next : ℕ) → typedAs m (length m) opening type at row ≡ done (f, next)
     → left ≡ length (tables row f) + left
 typed-counts m opening type at row left f next e =
-    let k = of-done (f, next) (typedAs-tableless m (length m) opening type at row) e row in rw k (omega arith)
+    let k = no-tables (of-done (f, next) (typedAs-tableless m (length m) opening type at row) e) row in rw k (omega arith)

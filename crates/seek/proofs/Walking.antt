@@ -21,7 +21,7 @@ use Rattle.seek.specs.declared.steps.Sought.{Sought}
 use Rattle.seek.specs.declared.steps.Sought.the-variants.{Refused, Past, Table}
 use Rattle.seek.proofs.steps.Sought.{the-type}
 use Rattle.seek.proofs.Picking.{tables-append, tables-length, pick-first, pick-past}
-use Rattle.seek.proofs.Tableless.{Tableless, none-tableless}
+use Rattle.seek.proofs.Tableless.{Tableless, empty, no-tables}
 use Rattle.seek.proofs.Back.{Both}
 
 -- an answer at which a walk ends, by its place in the enum
@@ -64,7 +64,7 @@ module _ (m : List ℕ) where
 
   -- tokens with no table are passed
   pub passed-none : (row left : ℕ) (f : Forest) (next row′ : ℕ) → Tableless f → row′ ≡ row + size f → Passed row left f next next row′ left
-  passed-none row left f next row′ p e = record { ended = refl; took = e; fewer = rw (p row) (omega arith) }
+  passed-none row left f next row′ p e = record { ended = refl; took = e; fewer = rw (no-tables p row) (omega arith) }
 
   -- over those below a token that is no table
   under-is : (row : ℕ) (t : Token) (below : Forest) → isKind tableKind (t .kind) ≡ false → tables row (node t below none) ≡ tables (row + 1) below
@@ -102,7 +102,7 @@ module _ {first number : ℕ} {f : Forest} {end : ℕ} {remains : Parsed Forest}
   -- nothing remains
   pub ahead-end : (m : List ℕ) (next place : ℕ) → a .rest ≡ none → place ≡ next → Passed first number f next place row left
   unfolding size
-  ahead-end m next place e q = ahead-comes m (Past place row left) next (rw (e, q) (passed-none m row left none next row none-tableless (omega arith)))
+  ahead-end m next place e q = ahead-comes m (Past place row left) next (rw (e, q) (passed-none m row left none next row empty (omega arith)))
 
   module _ (m : List ℕ) (item other : Reader) (at : ℕ) (b : Both item other at row (a .rest) end) where
     -- one more is passed
