@@ -66,8 +66,9 @@ fn put_token(
     if r.kind == TABLE {
         return put_table(message, rows, output, at, row, link, r);
     }
+    let below = row + 1;
     let start = put_head(output, at, r);
-    let end = put_tokens(message, rows, output, start, row + 1, link);
+    let end = put_tokens(message, rows, output, start, below, link);
     put_tail(message, output, end, r)
 }
 
