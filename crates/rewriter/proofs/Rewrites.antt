@@ -1,15 +1,13 @@
 -- The cases of rewriting: the reader's refusal, 11, and the house form. Assumes nothing.
-use Prim.Native.Nat.{ℕ, _+_, _*_, _≤_, _<_}
+use Prim.Native.Nat.{ℕ, _≤_}
 use mathlib.Core.Path.{_≡_, refl, sym, ap, subst, _∙_}
-use mathlib.Core.Bool.{Bool, true, false, _&&_}
 use mathlib.Core.List.{List}
 use native.Mathlib.Omega.{arith}
-use lib.ListN.{length, take, length-append}
-use lib.Seq.{sets, sets-eq, take-at}
+use lib.ListN.{length, take}
+use lib.Seq.{sets-eq, take-at}
 use lib.Dec.{leb}
 use borrow.Author.Tests.{leb-true}
 use Rattle.format.specs.Outcome.{Outcome, fault, done, _>>=_, _>>_, guard}
-use Rattle.format.specs.Limits.{limit}
 use Rattle.format.specs.Refusals.{outputTooLong}
 use Rattle.format.specs.Tokens.{Forest, size}
 use Rattle.format.specs.Rows.{rowsIn, zeros, filled}

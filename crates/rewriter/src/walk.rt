@@ -9,7 +9,7 @@ use writer::by_row::put_tail;
 use writer::kinds::TABLE;
 use writer::kinds::is_single;
 ghost use mathlib.Core.Path.{_≡_};
-ghost use mathlib.Core.Bool.{true, false};
+ghost use mathlib.Core.Bool.{true};
 ghost use Prim.Native.Nat.{_+_, _*_, _-_, _≤_, _<_};
 ghost use lib.Dec.{eqb};
 ghost use Rattle.format.specs.Tokens.{kindNumber, table as tableKind};

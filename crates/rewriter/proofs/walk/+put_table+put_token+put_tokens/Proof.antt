@@ -239,19 +239,19 @@ put-tokens-cast-link t c =
 
 put-tokens-put-token-requires : (t : ℕ) → put-tokens-lts.Need-put-token-requires (put-tokens-calls t) (put-tokens-at t) put-tokens.Post put-tokens-Inv-loop put-tokens-μ-loop
 put-tokens-put-token-requires t c κs =
-    let g = c .before .before .before .before .loop .inv .4 (c .before .before .before .before .before .before .before .before .pre .1 .0) in let i = c .before .before .before .before .before .before .before .before .pre .1 .0 .inside in let s = held-step (g .left) _ _ (c .before .before .before .loop-test .taken) (c .before .before .load .ensures (omega (arith, c .before .before .before .loop-test .taken))) refl in
+    let g = c .before .before .before .before .loop .inv .4 (c .before .before .before .before .before .before .before .before .pre .1 .0) in let i = c .before .before .before .before .before .before .before .before .pre .1 .0 .inside in let s = held-step (g .left) _ _ (c .before .before .before .loop-test .taken) (c .before .before .load .ensures .0 (omega (arith, c .before .before .before .loop-test .taken))) refl in
     let w = c .before .before .before .before .before .before .before .before .pre .1 .1 .low in
     let n = c .before .before .before .before .loop .inv in
     (omega arith, (s .first, record { short = c .before .before .before .before .before .before .before .before .pre .1 .1 .short; low = omega arith }))
 
 put-tokens-loop-less : (t : ℕ) → put-tokens-lts.Need-loop-less (put-tokens-calls t) (put-tokens-at t) put-tokens.Post put-tokens-Inv-loop put-tokens-μ-loop
 put-tokens-loop-less t c =
-    let g = c .before .before .before .before .before .before .before .loop .inv .4 (c .before .before .before .before .before .before .before .before .before .before .before .pre .1 .0) in let i = c .before .before .before .before .before .before .before .before .before .before .before .pre .1 .0 .inside in let s = held-step (g .left) _ _ (c .before .before .before .before .before .before .loop-test .taken) (c .before .before .before .before .before .load .ensures (omega (arith, c .before .before .before .before .before .before .loop-test .taken))) refl in
+    let g = c .before .before .before .before .before .before .before .loop .inv .4 (c .before .before .before .before .before .before .before .before .before .before .before .pre .1 .0) in let i = c .before .before .before .before .before .before .before .before .before .before .before .pre .1 .0 .inside in let s = held-step (g .left) _ _ (c .before .before .before .before .before .before .loop-test .taken) (c .before .before .before .before .before .load .ensures .0 (omega (arith, c .before .before .before .before .before .before .loop-test .taken))) refl in
     omega arith
 
 put-tokens-loop-again : (t : ℕ) → put-tokens-lts.Need-loop-again (put-tokens-calls t) (put-tokens-at t) put-tokens.Post put-tokens-Inv-loop put-tokens-μ-loop
 put-tokens-loop-again t c =
-    let g = c .before .before .before .before .before .before .before .loop .inv .4 (c .before .before .before .before .before .before .before .before .before .before .before .pre .1 .0) in let i = c .before .before .before .before .before .before .before .before .before .before .before .pre .1 .0 .inside in let s = held-step (g .left) _ _ (c .before .before .before .before .before .before .loop-test .taken) (c .before .before .before .before .before .load .ensures (omega (arith, c .before .before .before .before .before .before .loop-test .taken))) refl in
+    let g = c .before .before .before .before .before .before .before .loop .inv .4 (c .before .before .before .before .before .before .before .before .before .before .before .pre .1 .0) in let i = c .before .before .before .before .before .before .before .before .before .before .before .pre .1 .0 .inside in let s = held-step (g .left) _ _ (c .before .before .before .before .before .before .loop-test .taken) (c .before .before .before .before .before .load .ensures .0 (omega (arith, c .before .before .before .before .before .before .loop-test .taken))) refl in
     let n = c .before .before .before .before .before .before .before .loop .inv in
     let b = c .before .before .put-token .ensures .1 in (
       omega arith,
@@ -260,7 +260,7 @@ put-tokens-loop-again t c =
       (let e = c .before .before .put-token .ensures .0 (s .first) .kept in e ∙ n .3),
       λ h.
           let g′ = n .4 h in
-          let s′ = held-step (g′ .left) _ _ (c .before .before .before .before .before .before .loop-test .taken) (c .before .before .before .before .before .load .ensures (omega (arith, c .before .before .before .before .before .before .loop-test .taken))) refl in
+          let s′ = held-step (g′ .left) _ _ (c .before .before .before .before .before .before .loop-test .taken) (c .before .before .before .before .before .load .ensures .0 (omega (arith, c .before .before .before .before .before .before .loop-test .taken))) refl in
           going-on g′ s′ (c .before .before .put-token .ensures .0 (s′ .first)),
     )
 
