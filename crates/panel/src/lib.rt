@@ -1,0 +1,34 @@
+// The panel's calls: what they answer from the message only, each as one 64-bit number. specs/Layout.antt says how its parts lie.
+use format::answers::Answer;
+ghost use mathlib.Core.Path.{_≡_};
+ghost use Prim.Native.Nat.{_<_, _^_};
+ghost use Rattle.format.specs.Panel.{numberAndPlace, rowsNeeded};
+ghost use Rattle.panel.specs.Layout.{partsOf, numberAndPlaceParts, rowsParts};
+
+// Number, place or first byte, and rows or width in one number.
+fn packed(number: u32, place: usize, amount: usize) -> u64
+    requires { ⌜ (number < 2 ^ 8) × (place < 2 ^ 24) × (amount < 2 ^ 32) ⌝ }
+    ensures { λ r. ⌜ partsOf r ≡ record { number = number; place = place; amount = amount } ⌝ }
+{
+    number as u64 + place as u64 * 0x100 + amount as u64 * 0x1_0000_0000
+}
+
+// Number and place.
+pub fn number_and_place(message: &[u8]) -> u64
+    ensures { λ r. ⌜ partsOf r ≡ numberAndPlaceParts (numberAndPlace (now (message .entry))) ⌝ }
+{
+    match reader::message::rows_needed(message) {
+        Answer::Refused(number, place) => packed(number, place, 0),
+        Answer::Done(_) => packed(0, 0, 0),
+    }
+}
+
+// Number and place, and the rows needed.
+pub fn rows_needed(message: &[u8]) -> u64
+    ensures { λ r. ⌜ partsOf r ≡ rowsParts (rowsNeeded (now (message .entry))) ⌝ }
+{
+    match reader::message::rows_needed(message) {
+        Answer::Refused(number, place) => packed(number, place, 0),
+        Answer::Done(rows) => packed(0, 0, rows),
+    }
+}
