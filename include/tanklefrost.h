@@ -1,6 +1,7 @@
 /* Tanklefrost: reads, addresses and rewrites BJData messages without a heap. Usable from C99 and C++.
  *
- * Build `rt staticlib tanklefrost`, and link target/staticlib/libtanklefrost.a. The code is for x86-64 Linux.
+ * Build `rt staticlib tanklefrost`, and link target/staticlib/libtanklefrost.a. Its code is for x86-64 and uses memset of C's library,
+ * and nothing else.
  *
  * What holds of every call
  *
@@ -9,7 +10,7 @@
  * - It reads and writes only the memory that it is lent, for the length that goes with each pointer, and only while it runs.
  * - A pointer with length 0 is not read or written through. It may be NULL, and NULL may go with length 0 only.
  * - Lengths of bytes count bytes, lengths of rows count 32-bit words (eight to a row), lengths of indexes count indexes. Words and
- *   indexes must be aligned as their types are. What is written (`rows` of tanklefrost_read) must not overlap what else is lent.
+ *   indexes must be aligned as their types are. What is written (rows and output) must not overlap what else is lent.
  * - Rows, records, tables, leaves, indexes and places count from 0.
  *
  * Numbers given back, and the place that goes with each where a call answers a place
@@ -85,7 +86,13 @@ uint64_t tanklefrost_number_and_place(const uint8_t *message, size_t message_len
  * NULL with length 0 is the empty message: 2 at 0, no rows. */
 uint64_t tanklefrost_rows_needed(const uint8_t *message, size_t message_length);
 
-/* ---- Reading to rows */
+/* (Not in the archive yet.) A slot by table, leaf and record: its number, first byte and width, 0 for both beside a refusal. Tables count in message order,
+ * leaves in schema order, those in nested records and fixed arrays too, and records in storage order. A refused message answers its
+ * own number, without a place; then a table, leaf or record that isn't there is 10.
+ * NULL with length 0 is the empty message: 2. */
+uint64_t tanklefrost_slot(const uint8_t *message, size_t message_length, size_t table, size_t leaf, size_t record);
+
+/* ---- Reading to rows, and rewriting */
 
 /* Number and place, and the rows used or the bytes written; the amount is 0 beside a refusal. */
 struct tanklefrost_reading {
@@ -103,6 +110,15 @@ struct tanklefrost_reading {
  * NULL with length 0 for the message is the empty message: 2 at 0; for the rows it is a table of no rows: 8 where another number
  * doesn't come first. */
 struct tanklefrost_reading tanklefrost_read(const uint8_t *message, size_t message_length, uint32_t *rows, size_t row_words);
+
+/* (Not in the archive yet.) Rewrites a message to house form: number, place and bytes written. The message is read into the lent rows first, which then hold
+ * its rows, as after tanklefrost_read. 11 if the house form is longer than output_length or than 1,048,576 bytes; it comes after all of
+ * the reader's refusals. On refusal all rows and all output bytes are zero, else what wasn't filled.
+ *
+ * NULL with length 0 for the message is the empty message: 2 at 0; for the rows, a table of no rows: 8 where another number doesn't
+ * come first; for the output, no room: 11 after that. */
+struct tanklefrost_reading tanklefrost_rewrite(
+    const uint8_t *message, size_t message_length, uint32_t *rows, size_t row_words, uint8_t *output, size_t output_length);
 
 /* ---- The calls over rows. They change nothing.
  *

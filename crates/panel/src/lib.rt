@@ -18,7 +18,7 @@ pub fn number_and_place(message: &[u8]) -> u64
     ensures { λ r. ⌜ partsOf r ≡ numberAndPlaceParts (numberAndPlace (now (message .entry))) ⌝ }
 {
     match reader::message::rows_needed(message) {
-        Answer::Refused(number, place) => packed(number, place, 0),
+        Answer::Refused(n, p) => packed(n, p, 0),
         Answer::Done(_) => packed(0, 0, 0),
     }
 }

@@ -13,7 +13,7 @@ enum-known-number : tie.Need-enum-known-number
 enum-known-number c = search needs
 
 packed-requires : tie.Need-packed-requires
-packed-requires c κs = let h = refused-fits _ _ _ (rw (c .before .number .given .1) at (c .before .before .before .rows-needed .ensures)) in (h .0, h .1, omega arith)
+packed-requires c κs = let h = refused-fits _ _ _ (rw (c .before .number .given .1) at (c .before .before .before .rows-needed .ensures)) in (omega arith, omega arith, omega arith)
 
 enum-known-rows : tie.Need-enum-known-rows
 enum-known-rows c = search needs
