@@ -15,7 +15,7 @@ struct room {
     const uint8_t *bytes[LEAVES];
 };
 
-/* Finds a room's slots. Answers the call's number; a slot of another width than the panel knows is not its table, as if it weren't there. */
+/* Finds a room's slots, and answers the call's number. A slot of another width than the panel knows is in no table of its own: 10. */
 static uint32_t find_room(struct room *room, const uint8_t *message, size_t length, size_t record)
 {
     int leaf;

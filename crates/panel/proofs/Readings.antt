@@ -1,30 +1,16 @@
 -- What reading with rows enough answers fits the parts of the panel's answers. Assumes nothing.
-use Prim.Native.Nat.{ℕ, _≤_, _<_, _^_}
-use mathlib.Core.Path.{_≡_, refl, sym, _∙_}
-use mathlib.Core.Bool.{Bool, true, false}
+use Prim.Native.Nat.{ℕ, _<_, _^_}
+use mathlib.Core.Path.{_≡_, refl}
 use mathlib.Core.List.{List}
 use native.Mathlib.Omega.{arith}
 use lib.ListN.{length}
-use lib.Dec.{leb}
-use borrow.Author.Tests.{leb-true}
-use Rattle.format.specs.Outcome.{Outcome, fault, done, numberOf, placeOf, orZero, _>>_, guard}
-use Rattle.format.specs.Limits.{limit}
-use Rattle.format.specs.Refusals.{messageTooLong}
+use Rattle.format.specs.Outcome.{Outcome, fault, done, numberOf, placeOf, orZero}
 use Rattle.format.specs.Tokens.{Forest, size}
-use Rattle.format.specs.Read.{read, rowsUsed}
+use Rattle.format.specs.Read.{rowsUsed}
 use Rattle.format.specs.Panel.{readWhole, numberAndPlace, rowsNeeded}
-use Rattle.laws.proofs.Reading.{rows-few}
-use Rattle.panel.specs.Layout.{Parts, numberAndPlaceParts, rowsParts}
 use Rattle.laws.proofs.Faults.{fault-within}
-
--- an accepted message is within the limit
-accepted-short : (m : List ℕ) (rowsLent : ℕ) (f : Forest) → read m rowsLent ≡ done f → length m ≤ limit
-unfolding read guard _>>_
-accepted-short m rowsLent f e = go (leb (length m) limit) refl _ e
-  where
-    go : (b : Bool) → leb (length m) limit ≡ b → (rest : Outcome Forest) → (guard b messageTooLong 0 >> rest) ≡ done f → length m ≤ limit
-    go true t rest e = leb-true (length m) limit t
-    go false t rest e = let z : _≡_ {A = ℕ} 0 1 = cc in absurd (omega arith)
+use Rattle.laws.proofs.Reading.{accepted-short, rows-few}
+use Rattle.panel.specs.Layout.{numberAndPlaceParts, rowsParts}
 
 module _ (m : List ℕ) where
   module _ (n p : ℕ) (refused : fault n p ≡ rowsNeeded m) where
