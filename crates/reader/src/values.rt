@@ -31,7 +31,7 @@ pub enum Header {
 }
 
 // The opening mark at `at`: depth, row, and what follows it.
-fn header_at(message: &[u8], lent: usize, levels: usize, at: usize, row: usize) -> Header
+pub fn header_at(message: &[u8], lent: usize, levels: usize, at: usize, row: usize) -> Header
     requires { ⌜ (length (now message) ≤ limit) × (at < length (now message)) ⌝ }
     ensures meets { λ r. ⌜ HeaderMeets r (now (message .entry)) lent levels at row ⌝ }
     ensures bounds { λ r. ⌜ HeaderWithin r (at + 2) (length (now (message .entry))) lent levels at row ⌝ }

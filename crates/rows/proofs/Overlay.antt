@@ -105,12 +105,16 @@ drop-zeros zero l = ap (λ k. zeros k) (sym (sub-zero l))
 drop-zeros (suc n) zero = ap (λ k. zeros k) (sym (zero-sub (suc n)))
 drop-zeros (suc n) (suc l) = drop-zeros n l ∙ ap (λ k. zeros k) (sym (suc-sub-suc l n))
 
--- over zeros they are what is filled
-pub lay-zeros : (n : ℕ) (rs : List Row) → length rs * 8 ≤ n → lay (zeros n) 0 rs ≡ filled n (wordsOf rs)
+-- numbers stored over zeros are what is filled
+pub sets-zeros : (n : ℕ) (l : List ℕ) → length l ≤ n → sets (zeros n) 0 l ≡ filled n l
 unfolding filled
+sets-zeros n l h =
+    let z = length-replicate {A = ℕ} n 0 in
+    sets-eq l (zeros n) 0 (omega arith) ∙ ap (λ t. l ++ t) (ap (λ k. drop k (zeros n)) (zero-add (length l)) ∙ drop-zeros (length l) n)
+
+-- and so are the words of rows
+pub lay-zeros : (n : ℕ) (rs : List Row) → length rs * 8 ≤ n → lay (zeros n) 0 rs ≡ filled n (wordsOf rs)
 lay-zeros n rs h =
     let w = length-words rs in
     let z = length-replicate {A = ℕ} n 0 in
-    lay-there (zeros n) 0 rs (omega arith)
-    ∙ sets-eq (wordsOf rs) (zeros n) 0 (omega arith)
-    ∙ ap (λ t. wordsOf rs ++ t) (ap (λ k. drop k (zeros n)) (zero-add (length (wordsOf rs))) ∙ drop-zeros (length (wordsOf rs)) n)
+    lay-there (zeros n) 0 rs (omega arith) ∙ sets-zeros n (wordsOf rs) (omega arith)

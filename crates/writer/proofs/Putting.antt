@@ -1,20 +1,24 @@
 -- Bytes put one after another: in pieces, byte by byte, and digit by digit. Assumes nothing.
 use Prim.Native.Nat.{ℕ, zero, suc, _+_, _-_, _/_, _%_, _≤_, _<_}
 use mathlib.Core.Path.{_≡_, refl, sym, ap, subst, _∙_}
+use mathlib.Core.Bool.{Bool, true, false}
 use mathlib.Core.List.{List, [], _∷_, _++_, append-nil, append-assoc}
 use native.Mathlib.Omega.{arith}
 use native.Mathlib.Numerals.{add-one}
 use lib.ListN.{length, set, take, getD, length-set, length-append}
+use lib.Dec.{eqb}
 use borrow.Author.Tests.{lt-ltb, le-ltb}
 use lib.Seq.{sets, length-sets, length-take-le, take-all, take-suc}
 use Rattle.format.specs.Conditions.{if_then_else_, among}
-use Rattle.format.specs.Marks.{width, 'U', 'u', 'm'}
+use Rattle.format.specs.Marks.{width, 'U', 'u', 'm', ']'}
+use Rattle.format.specs.Tokens.{plainCount, firstSlowest}
 use Rattle.format.specs.Integers.{smallest}
 use Rattle.format.specs.HouseForm.{digits, smallInteger}
 use Rattle.format.proofs.MarkFacts.{width-few}
 use Rattle.format.proofs.Little.{length-digits}
 use Rattle.rows.proofs.Overlay.{sets-append}
 use Rattle.writer.specs.Puts.{Puts}
+use Rattle.writer.specs.Pieces.{shapeEnd}
 
 -- nothing
 pub puts-none : (l : List ℕ) (at : ℕ) → Puts l l at at []
@@ -110,3 +114,13 @@ integer-puts n mark e p q = rw e (puts-append (mark ∷ []) (digits (width mark)
 pub integer-few : (n : ℕ) → length (smallInteger n) ≤ 9
 unfolding smallInteger
 integer-few n = let e = length-digits (width (smallest n)) n in omega (arith, width-few (smallest n))
+
+-- a shape ends in two bytes at most
+pub end-few : (order : ℕ) → length (shapeEnd order) ≤ 2
+unfolding shapeEnd if_then_else_
+end-few order = go (eqb order plainCount) (eqb order firstSlowest)
+  where
+    go : (b c : Bool) → length (if b then [] else if c then ']' ∷ [] else ']' ∷ ']' ∷ []) ≤ 2
+    go true c = omega arith
+    go false true = omega arith
+    go false false = omega arith

@@ -1,0 +1,5 @@
+pub mod Steps
+pub mod Going
+pub mod Lengths
+pub mod Forms
+pub mod Rewrites

@@ -1,0 +1,3 @@
+// The rewriter: a message to its house form.
+pub mod message;
+pub mod walk;

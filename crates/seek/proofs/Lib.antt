@@ -1,0 +1,10 @@
+pub mod Picking
+pub mod Tableless
+pub mod Back
+pub mod Passing
+pub mod Walking
+pub mod Loops
+pub mod Members
+pub mod Message
+pub mod Standing
+pub mod Counting
