@@ -86,8 +86,7 @@ uint64_t tanklefrost_number_and_place(const uint8_t *message, size_t message_len
  * NULL with length 0 is the empty message: 2 at 0, no rows. */
 uint64_t tanklefrost_rows_needed(const uint8_t *message, size_t message_length);
 
-/* Not in the archive yet.
- * A slot by table, leaf and record: its number, first byte and width, 0 for both beside a refusal. Tables count in message order,
+/* A slot by table, leaf and record: its number, first byte and width, 0 for both beside a refusal. Tables count in message order,
  * leaves in schema order, those in nested records and fixed arrays too, and records in storage order. A refused message answers its
  * own number, without a place; then a table, leaf or record that isn't there is 10.
  * NULL with length 0 is the empty message: 2. */
@@ -112,8 +111,7 @@ struct tanklefrost_reading {
  * doesn't come first. */
 struct tanklefrost_reading tanklefrost_read(const uint8_t *message, size_t message_length, uint32_t *rows, size_t row_words);
 
-/* Not in the archive yet.
- * Rewrites a message to house form: number, place and bytes written. The message is read into the lent rows first, which then hold
+/* Rewrites a message to house form: number, place and bytes written. The message is read into the lent rows first, which then hold
  * its rows, as after tanklefrost_read. 11 if the house form is longer than output_length or than 1,048,576 bytes; it comes after all of
  * the reader's refusals. On refusal all rows and all output bytes are zero, else what wasn't filled.
  *

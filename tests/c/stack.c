@@ -15,6 +15,7 @@ enum { STACK = 64 * 1024, LEVELS = 32, SCHEMA_LEVELS = 8 };
 
 static struct bytes m;
 static uint32_t rows[256 * TANKLEFROST_ROW_WORDS];
+static uint8_t output[4096];
 static unsigned char *stack;
 static size_t room, used, most;
 
@@ -50,6 +51,12 @@ static void *read_rows(void *top)
     return tanklefrost_read(m.at, m.size, rows, sizeof rows / sizeof *rows).number == 0 ? top : NULL;
 }
 
+static void *rewrite(void *top)
+{
+    used = (size_t)((unsigned char *)&top - stack);
+    return tanklefrost_rewrite(m.at, m.size, rows, sizeof rows / sizeof *rows, output, sizeof output).number == 0 ? top : NULL;
+}
+
 static size_t measure(void *(*call)(void *))
 {
     pthread_attr_t attributes;
@@ -72,8 +79,8 @@ static size_t measure(void *(*call)(void *))
 
 static void deepest(const char *name)
 {
-    size_t a = measure(number_and_place), b = measure(rows_needed), c = measure(slot), d = measure(read_rows);
-    printf("stack of %s: number and place %zu, rows needed %zu, slot %zu, read %zu bytes\n", name, a, b, c, d);
+    size_t a = measure(number_and_place), b = measure(rows_needed), c = measure(slot), d = measure(read_rows), e = measure(rewrite);
+    printf("stack of %s: number and place %zu, rows needed %zu, slot %zu, read %zu, rewrite %zu bytes\n", name, a, b, c, d, e);
     most = most < a ? a : most;
     most = most < b ? b : most;
     most = most < c ? c : most;

@@ -14,7 +14,7 @@ use Rattle.panel.specs.Layout.{numberAndPlaceParts, rowsParts}
 
 module _ (m : List ℕ) where
   module _ (n p : ℕ) (refused : fault n p ≡ rowsNeeded m) where
-    read-refused : readWhole m ≡ fault n p
+    pub read-refused : readWhole m ≡ fault n p
     unfolding rowsNeeded rowsUsed
     read-refused = go (readWhole m) refused
       where
@@ -36,12 +36,12 @@ module _ (m : List ℕ) where
 
   module _ (rows : ℕ) (answered : done rows ≡ rowsNeeded m) where
     -- the tokens that were read
-    record Accepted : Type 0 where
+    pub record Accepted : Type 0 where
       pub forest : Forest
       pub read : readWhole m ≡ done forest
       pub took : rows ≡ size forest
 
-    accepted : Accepted
+    pub accepted : Accepted
     unfolding rowsNeeded rowsUsed
     accepted = go (readWhole m) refl answered
       where

@@ -1,9 +1,14 @@
 // The panel's calls: what they answer from the message only, each as one 64-bit number. specs/Layout.antt says how its parts lie.
 use format::answers::Answer;
+use format::answers::Located;
+use records::slot::slot_in;
+use seek::TableFound;
+use seek::table_at;
 ghost use mathlib.Core.Path.{_≡_};
 ghost use Prim.Native.Nat.{_<_, _^_};
-ghost use Rattle.format.specs.Panel.{numberAndPlace, rowsNeeded};
-ghost use Rattle.panel.specs.Layout.{partsOf, numberAndPlaceParts, rowsParts};
+ghost use Rattle.format.specs.Answers.{firstAndWidth};
+ghost use Rattle.format.specs.Panel.{numberAndPlace, rowsNeeded, panelSlot};
+ghost use Rattle.panel.specs.Layout.{partsOf, numberAndPlaceParts, rowsParts, slotParts};
 
 // Number, place or first byte, and rows or width in one number.
 fn packed(number: u32, place: usize, amount: usize) -> u64
@@ -30,5 +35,26 @@ pub fn rows_needed(message: &[u8]) -> u64
     match reader::message::rows_needed(message) {
         Answer::Refused(number, place) => packed(number, place, 0),
         Answer::Done(rows) => packed(0, 0, rows),
+    }
+}
+
+// The slot of a table, in message order, a leaf, in schema order, and a record, in storage order, all from 0.
+pub fn slot(message: &[u8], table: usize, leaf: usize, number: usize) -> u64
+    ensures { λ r. ⌜ partsOf r ≡ slotParts (firstAndWidth (panelSlot (now (message .entry)) table leaf number)) ⌝ }
+{
+    match reader::message::rows_needed(message) {
+        Answer::Refused(refusal, _) => return packed(refusal, 0, 0),
+        Answer::Done(_) => {}
+    }
+    match table_at(message, table) {
+        TableFound::Missing => packed(10, 0, 0),
+        TableFound::At {
+            first,
+            brace,
+            row: _,
+        } => match slot_in(message, brace, first, leaf, number) {
+            Located::Refused(refusal) => packed(refusal, 0, 0),
+            Located::At(start, wide) => packed(0, start, wide),
+        },
     }
 }
