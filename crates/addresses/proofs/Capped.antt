@@ -1,11 +1,12 @@
 -- Sums and products of capped numbers. Assumes nothing.
-use Prim.Native.Nat.{ℕ, zero, suc, _+_, _*_, _/_, _≤_, _<_, min}
-use mathlib.Core.Path.{_≡_, refl, sym, ap, _∙_}
+use Prim.Native.Nat.{ℕ, zero, suc, _+_, _*_, _/_, _≤_, _<_}
+use mathlib.Core.Path.{_≡_, refl, sym}
 use mathlib.Core.Bool.{Bool, true, false}
 use native.Mathlib.Omega.{arith}
-use native.Mathlib.Nat.{min-eq-left, min-eq-right, mul-suc, mul-zero, div-lt-iff-lt-mul, le-div-iff-mul-le}
+use native.Mathlib.Nat.{min-eq-left, min-eq-right, mul-suc, div-lt-iff-lt-mul, le-div-iff-mul-le}
 use lib.Dec.{leb}
 use borrow.Author.Tests.{leb-true, leb-false}
+use Rattle.format.proofs.Products.{stopped-factor}
 use Rattle.addresses.specs.Sums.{most, capped}
 
 -- a product that does not fit, and one that does
@@ -33,16 +34,7 @@ capped-longer n (suc e) index h = go (leb n most) refl
 
 -- a capped factor may be taken for the factor
 pub capped-factor : (n each : ℕ) → capped (capped n * each) ≡ capped (n * each)
-capped-factor n zero = rw (mul-zero n, mul-zero (capped n)) refl
-capped-factor n (suc e) = go (leb n most) refl
-  where
-    go : (b : Bool) → leb n most ≡ b → capped (capped n * suc e) ≡ capped (n * suc e)
-    go true q = rw (min-eq-left (leb-true n most q)) refl
-    go false q =
-        let k : most < n = leb-false n most q in
-        let s = mul-suc n e in
-        let t = mul-suc most e in
-        rw (min-eq-right (less n k)) (omega arith)
+capped-factor n each = stopped-factor most n each
 
 -- so many bytes after a place, for each of a number, and then an offset
 pub capped-place : (place many each offset : ℕ) → capped (capped (capped place + capped (capped many * each)) + offset) ≡ capped (place + many * each + offset)

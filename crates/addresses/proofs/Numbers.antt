@@ -1,6 +1,6 @@
 -- Indexes in range, and their number, from the first index on or from the last. Assumes nothing.
 use Prim.Native.Nat.{ℕ, zero, suc, _+_, _-_, _*_, _≤_, _<_}
-use mathlib.Core.Path.{_≡_, refl, sym, ap, ap₂, _∙_}
+use mathlib.Core.Path.{_≡_, refl, sym, ap, _∙_}
 use mathlib.Core.Bool.{Bool, true, false, _&&_, false≢true}
 use mathlib.Core.List.{List, [], _∷_}
 use native.Mathlib.Omega.{arith}
@@ -11,7 +11,7 @@ use lib.Seq.{drop-cons}
 use lib.Dec.{ltb}
 use borrow.Author.Tests.{ltb-true, lt-ltb, le-ltb}
 use Rattle.format.specs.Indexes.{product, inRange, lastNumber, firstNumber}
-use Rattle.addresses.specs.Sums.{most, capped}
+use Rattle.addresses.specs.Sums.{capped}
 use Rattle.addresses.proofs.Capped.{capped-longer}
 
 -- ---- in range

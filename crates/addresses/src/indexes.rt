@@ -4,7 +4,6 @@ use crate::sums::times;
 ghost use mathlib.Core.Path.{_≡_};
 ghost use mathlib.Core.Bool.{true};
 ghost use Prim.Native.Nat.{_+_, _*_};
-ghost use lib.ListN.{length};
 ghost use Rattle.format.specs.Indexes.{inRange, lastNumber, firstNumber, numberIn};
 ghost use Rattle.addresses.specs.Sums.{capped};
 

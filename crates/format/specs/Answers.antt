@@ -16,7 +16,6 @@ use Rattle.format.specs.declared.answers.Kind.{Kind}
 use Rattle.format.specs.declared.answers.Kind.the-variants.{Scalar, Text, HighPrecision, Key, Array, Object, Packed, Table, Leaf, SchemaRecord, FixedArray, Dimension}
 use Rattle.format.specs.declared.answers.Value.{Value}
 use Rattle.format.specs.declared.answers.Value.the-variants.{Null, Boolean, Signed, Unsigned, Single, SingleNan, Double, DoubleNan, Char, Byte}
-use Rattle.format.specs.declared.answers.Token.{Token}
 use Rattle.format.specs.declared.answers.Valued.{Valued}
 use Rattle.format.specs.declared.answers.Valued.the-variants.{Token as Read, Refused as NotValued}
 

@@ -1,11 +1,11 @@
 -- Packed arrays, tables, arrays and objects.
 use Prim.Native.Nat.{ℕ, _+_, _-_, _*_}
-use mathlib.Core.Bool.{Bool, true, false}
+use mathlib.Core.Bool.{true, false}
 use mathlib.Core.List.{List}
 use lib.ListN.{length}
 use lib.Dec.{leb, eqb}
 use Rattle.format.specs.Conditions.{if_then_else_}
-use Rattle.format.specs.Outcome.{Outcome, fault, done, Parsed, _>>=_, _>>_, guard}
+use Rattle.format.specs.Outcome.{done, _>>=_, _>>_, guard}
 use Rattle.format.specs.Limits.{limit, recordLimit}
 use Rattle.format.specs.Refusals.{notAllowed, overLimit}
 use Rattle.format.specs.Marks.{Opening, bracket, brace, opens, closes, isType, width, '#', '$', left-brace}

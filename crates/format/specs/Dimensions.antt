@@ -4,7 +4,7 @@ use mathlib.Core.Bool.{Bool, not, _&&_}
 use mathlib.Core.List.{List}
 use lib.Dec.{eqb}
 use Rattle.format.specs.Conditions.{if_then_else_, between}
-use Rattle.format.specs.Outcome.{Outcome, fault, done, Parsed, _>>=_, _>>_, guard}
+use Rattle.format.specs.Outcome.{fault, done, Parsed, _>>=_, _>>_, guard}
 use Rattle.format.specs.Limits.{limit, dimensionLimit}
 use Rattle.format.specs.Refusals.{wrongInteger}
 use Rattle.format.specs.Marks.{isInteger, width, '#', '$', '[', ']'}

@@ -5,7 +5,7 @@ use mathlib.Core.List.{List, [], _∷_, _++_}
 use lib.ListN.{length, getD, replicate}
 use lib.Dec.{eqb}
 use Rattle.format.specs.Conditions.{same}
-use Rattle.format.specs.Outcome.{Outcome, fault, done, _>>=_}
+use Rattle.format.specs.Outcome.{Outcome, fault, done}
 use Rattle.format.specs.Tokens.{Forest}
 use Rattle.format.specs.Rows.{allWords}
 use Rattle.format.specs.Addresses.{Region, packedSlot, tableSlot}

@@ -1,7 +1,7 @@
 -- 01, "House form": 01's own name for the form in which the rewriter writes a message. No `N`; lengths, counts and dimensions
 -- with the smallest of `U u m`; arrays and objects counted and untyped; dimensions marked, in brackets; the rest unchanged.
 use Prim.Native.Nat.{ℕ, zero, suc, _/_, _%_}
-use mathlib.Core.Bool.{Bool, _&&_}
+use mathlib.Core.Bool.{_&&_}
 use mathlib.Core.List.{List, [], _∷_, _++_}
 use lib.ListN.{length}
 use lib.Dec.{leb, eqb}

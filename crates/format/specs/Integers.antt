@@ -4,7 +4,7 @@ use mathlib.Core.Bool.{Bool, not, _&&_}
 use mathlib.Core.List.{List}
 use lib.Dec.{leb, ltb}
 use Rattle.format.specs.Conditions.{if_then_else_}
-use Rattle.format.specs.Outcome.{Outcome, done, Parsed, _>>=_, _>>_, guard}
+use Rattle.format.specs.Outcome.{done, Parsed, _>>=_, _>>_, guard}
 use Rattle.format.specs.Limits.{limit}
 use Rattle.format.specs.Refusals.{overLimit, wrongInteger}
 use Rattle.format.specs.Marks.{isInteger, isSigned, width, 'U', 'u', 'm'}

@@ -1,11 +1,10 @@
 -- Reading: a message and the number of rows lent, to the forest of its tokens or the first fault reached from left to right.
 use Prim.Native.Nat.{ℕ, zero, suc, _+_}
-use mathlib.Core.Bool.{Bool}
 use mathlib.Core.List.{List}
 use lib.ListN.{length}
 use lib.Dec.{leb, eqb}
 use Rattle.format.specs.Conditions.{if_then_else_}
-use Rattle.format.specs.Outcome.{Outcome, fault, done, Parsed, _>>=_, _>>_, guard}
+use Rattle.format.specs.Outcome.{Outcome, fault, done, _>>=_, _>>_, guard}
 use Rattle.format.specs.Limits.{limit, valueLevels}
 use Rattle.format.specs.Refusals.{messageTooLong, notAllowed, tooDeep, bytesAfter}
 use Rattle.format.specs.Marks.{Opening, bracket, brace, isScalar, 'H', 'S', '[', left-brace}

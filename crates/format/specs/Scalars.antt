@@ -1,10 +1,10 @@
 -- Scalars, texts, high-precision numbers and keys. Where a token must begin, no byte is 2; then mark, depth, row, the rest.
 use Prim.Native.Nat.{ℕ, _+_}
 use mathlib.Core.List.{List}
-use Rattle.format.specs.Outcome.{Outcome, done, Parsed, _>>=_, _>>_}
+use Rattle.format.specs.Outcome.{done, _>>=_, _>>_}
 use Rattle.format.specs.Limits.{limit}
 use Rattle.format.specs.Marks.{isInteger, width, 'S'}
-use Rattle.format.specs.Tokens.{Kind, scalar as scalarKind, key as keyKind, Forest, alone, uncounted}
+use Rattle.format.specs.Tokens.{Kind, scalar as scalarKind, key as keyKind, alone, uncounted}
 use Rattle.format.specs.Bytes.{byte, oneOf}
 use Rattle.format.specs.Content.{payloadEnd}
 use Rattle.format.specs.Integers.{number, integer}

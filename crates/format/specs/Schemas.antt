@@ -1,11 +1,11 @@
 -- Schemas: the leaves, records and fixed arrays of a table.
 use Prim.Native.Nat.{ℕ, zero, suc, _+_}
-use mathlib.Core.Bool.{Bool, not}
+use mathlib.Core.Bool.{not}
 use mathlib.Core.List.{List}
 use lib.ListN.{length}
 use lib.Dec.{eqb}
 use Rattle.format.specs.Conditions.{if_then_else_}
-use Rattle.format.specs.Outcome.{Outcome, fault, done, Parsed, _>>=_, _>>_, guard}
+use Rattle.format.specs.Outcome.{fault, done, _>>=_, _>>_, guard}
 use Rattle.format.specs.Limits.{schemaLevels}
 use Rattle.format.specs.Refusals.{notAllowed, tooDeep, notBuilt}
 use Rattle.format.specs.Marks.{Opening, bracket, brace, opens, closes, isPlainLeaf, leafWidth, 'H', 'S', '$', '[', left-brace}

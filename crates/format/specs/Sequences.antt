@@ -1,6 +1,5 @@
 -- What reads tokens, and the ways to go on from one to the next. A reader starts at a place of the message and at a row.
 use Prim.Native.Nat.{ℕ, zero, suc, _+_}
-use mathlib.Core.Bool.{Bool}
 use mathlib.Core.List.{List}
 use lib.ListN.{length}
 use lib.Dec.{ltb, eqb}

@@ -6,7 +6,7 @@ use lib.ListN.{length, getD}
 use lib.Dec.{ltb, eqb}
 use lib.IntN.{ℤ, pos, negsuc}
 use Rattle.format.specs.Conditions.{if_then_else_}
-use Rattle.format.specs.Outcome.{Outcome, fault, done, _>>=_, _>>_, guard}
+use Rattle.format.specs.Outcome.{Outcome, done, _>>=_, _>>_, guard}
 use Rattle.format.specs.Refusals.{rowsDontFit}
 use Rattle.format.specs.Marks.{isInteger, isSigned, isScalar, isBoolean, width, leafWidth, 'B', 'C', 'D', 'T', 'd', 'h'}
 use Rattle.format.specs.Content.{isContent}

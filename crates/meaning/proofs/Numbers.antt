@@ -1,11 +1,10 @@
 -- Lengths, counts and dimensions as they are written: in the smallest of `U u m`, and read back. Assumes nothing.
 use Prim.Native.Nat.{ℕ, zero, suc, _^_, _/_, _≤_, _<_}
-use mathlib.Core.Path.{_≡_, refl, sym, ap, _∙_}
+use mathlib.Core.Path.{_≡_, refl, sym, _∙_}
 use mathlib.Core.Bool.{Bool, true, false, not, _&&_, _||_, or-false}
 use mathlib.Core.List.{List, [], _∷_}
 use native.Mathlib.Omega.{arith}
 use native.Mathlib.Nat.{div-add-mod, pow-suc}
-use lib.ListN.{length}
 use lib.Dec.{leb, ltb}
 use borrow.Author.Tests.{ltb-true, leb-true, lt-ltb}
 use Rattle.format.specs.Conditions.{if_then_else_, among, all}

@@ -1,15 +1,14 @@
 -- The tokens of an accepted message are written as their rows say. Assumes nothing.
-use Prim.Native.Nat.{ℕ, _+_, _≤_, _<_}
+use Prim.Native.Nat.{ℕ, _<_}
 use mathlib.Core.Path.{_≡_, refl, sym, ap, _∙_}
-use mathlib.Core.Bool.{Bool, true, false, _||_, true≢false, false≢true}
+use mathlib.Core.Bool.{Bool, true, false, _||_, false≢true}
 use mathlib.Core.List.{List, [], _∷_, _++_, append-nil, append-assoc}
 use native.Mathlib.Omega.{arith}
-use lib.ListN.{length}
 use lib.Dec.{eqb, ltb}
-use borrow.Author.Tests.{lt-ltb, ltb-true, eqb-true, eq-eqb}
+use borrow.Author.Tests.{lt-ltb, ltb-true, eqb-true}
 use Rattle.format.specs.Conditions.{if_then_else_, among, all}
-use Rattle.format.specs.Marks.{Opening, bracket, brace, openingOf, opens, closes, integers, types, isType, isScalar, isPlainLeaf, isLeaf, letterOf, 'F', 'H', 'S', 'T', 'Z', '[', ']', '#', '$', left-brace}
-use Rattle.format.specs.Tokens.{Kind, kindNumber, scalar, text, highPrecision, key, array, object, packed, table, leaf, schemaRecord, fixedArray, dimension, Token, plainCount, firstSlowest, isKind, Forest, none, node, _⊕_}
+use Rattle.format.specs.Marks.{Opening, bracket, brace, opens, closes, integers, types, isType, isScalar, isPlainLeaf, isLeaf, letterOf, 'F', 'H', 'S', 'T', 'Z', '[', ']', '#', '$'}
+use Rattle.format.specs.Tokens.{Kind, kindNumber, scalar, text, highPrecision, key, array, object, packed, table, leaf, schemaRecord, fixedArray, dimension, Token, firstSlowest, Forest, none, _⊕_}
 use Rattle.format.specs.Records.{atOffset, placed}
 use Rattle.format.specs.Rows.{rowOf}
 use Rattle.format.specs.HouseForm.{smallInteger, shape, tableForm, whole, payloadOf, token, written, house}
@@ -17,7 +16,7 @@ use Rattle.format.specs.Dimensions.{Shape}
 use Rattle.format.specs.Schemas as Schemas
 use Rattle.format.specs.Containers as Containers
 use Rattle.format.proofs.MarkFacts.{among-passes}
-use Rattle.laws.proofs.Schemas.{groupKind, Is, Members, noMore, key as keyMember, leaf as leafMember, group as groupMember, Group, grouped, group-one}
+use Rattle.laws.proofs.Schemas.{groupKind, Members, noMore, key as keyMember, leaf as leafMember, group as groupMember, Group, grouped, group-one}
 use Rattle.laws.proofs.Order.{group-kind}
 use Rattle.laws.proofs.Counts.{Shaped, plain, vector}
 use Rattle.storage.proofs.Offsets.{member-placed, width-placed, is-placed, members-placed}

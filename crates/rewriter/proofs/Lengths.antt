@@ -1,19 +1,17 @@
 -- What a row writes is short. Assumes nothing.
 use Prim.Native.Nat.{ℕ, _+_, _≤_}
 use mathlib.Core.Bool.{Bool, true, false}
-use mathlib.Core.List.{List, [], _∷_, _++_}
+use mathlib.Core.List.{List, []}
 use native.Mathlib.Omega.{arith}
-use native.Mathlib.Nat.{le-trans}
-use lib.ListN.{length, take, drop, length-append, length-take, length-drop}
+use lib.ListN.{length, drop, length-append, length-take, length-drop}
 use lib.Dec.{eqb}
-use Rattle.format.specs.Conditions.{if_then_else_, among}
+use Rattle.format.specs.Conditions.{if_then_else_}
 use Rattle.format.specs.Limits.{limit}
 use Rattle.format.specs.Marks.{letterOf, 'S'}
-use Rattle.format.specs.Tokens.{kindNumber, scalar, text, highPrecision, key, array, object, packed, table, leaf, schemaRecord, dimension, plainCount, firstSlowest}
 use Rattle.format.specs.Rows.{Row}
 use Rattle.format.specs.Bytes.{bytes}
 use Rattle.format.specs.HouseForm.{smallInteger}
-use Rattle.writer.specs.Pieces.{isList, shapeStart, shapeEnd, payloadAt, single, head, middle, tail}
+use Rattle.writer.specs.Pieces.{shapeStart, shapeEnd, payloadAt, single, head, middle, tail}
 use Rattle.writer.proofs.Putting.{integer-few, end-few}
 
 -- so many bytes at most

@@ -3,3 +3,4 @@ pub mod Going
 pub mod Lengths
 pub mod Forms
 pub mod Rewrites
+pub mod Clearing

@@ -1,21 +1,19 @@
 -- The cases of rewriting: the reader's refusal, 11, and the house form. Assumes nothing.
-use Prim.Native.Nat.{ℕ, _+_, _*_, _≤_, _<_}
+use Prim.Native.Nat.{ℕ, _≤_}
 use mathlib.Core.Path.{_≡_, refl, sym, ap, subst, _∙_}
-use mathlib.Core.Bool.{Bool, true, false, _&&_}
 use mathlib.Core.List.{List}
 use native.Mathlib.Omega.{arith}
-use lib.ListN.{length, length-replicate}
+use lib.ListN.{length, take}
+use lib.Seq.{sets-eq, take-at}
 use lib.Dec.{leb}
 use borrow.Author.Tests.{leb-true}
 use Rattle.format.specs.Outcome.{Outcome, fault, done, _>>=_, _>>_, guard}
-use Rattle.format.specs.Limits.{limit}
 use Rattle.format.specs.Refusals.{outputTooLong}
 use Rattle.format.specs.Tokens.{Forest, size}
 use Rattle.format.specs.Rows.{rowsIn, zeros, filled}
 use Rattle.format.specs.Read.{read, readInto, rowsUsed, wordsAfter}
 use Rattle.format.specs.HouseForm.{house, rewrite, bytesWritten, outputAfter, rewriteWordsAfter}
 use Rattle.format.proofs.Tests.{both-true}
-use Rattle.rows.proofs.Overlay.{sets-zeros}
 use Rattle.laws.proofs.Holds.{of-done}
 use Rattle.laws.proofs.Reading.{rows-few}
 use Rattle.storage.specs.Places.{Filled}
@@ -23,6 +21,7 @@ use Rattle.storage.proofs.Places.{read-fills, filled-rows, filled-enough}
 use Rattle.meaning.proofs.Accepting.{read-finds}
 use Rattle.writer.specs.Puts.{Puts}
 use Rattle.rewriter.specs.Held.{Held, Room}
+use Rattle.rewriter.specs.Settled.{clearedFrom, fitsIn, Settled, fitting, tooLong}
 use Rattle.rewriter.proofs.Forms.{accepted-formed}
 
 -- tokens were read, of so many rows
@@ -89,40 +88,33 @@ module _ (m ws : List ℕ) where
         let r = refuses (readInto m ws) n p e in
         leaves-fault n p output words (rw r) o (rw r at w)
 
-    -- the walk over the rows has put the house form into an output of zeros
-    record Walked (end : ℕ) (after : List ℕ) (f : Forest) : Type 0 where
-      ends : end ≡ length (house m f)
-      kept : length after ≡ room
-      there : end ≤ room → after ≡ filled room (house m f)
-
-    walked : (used end : ℕ) (before after rows : List ℕ) (a : Accepts (readInto m ws) used) → rows ≡ wordsAfter (length ws) (readInto m ws) → before ≡ zeros room
-        → ((h : Held rows 0 used) → Puts before after 0 end (house m (h .tokens))) → Walked end after (a .tokens)
+  -- the bytes that were put are the house form, and where it fits nothing else is left in the output
+  module _ (before after : List ℕ) (used end : ℕ) (rows : List ℕ) (a : Accepts (readInto m ws) used) (w : rows ≡ wordsAfter (length ws) (readInto m ws)) (kept : length rows ≡ length ws)
+      (puts : (h : Held rows 0 used) → Puts before after 0 end (house m (h .tokens))) where
+    put-all : Puts before after 0 end (house m (a .tokens))
     unfolding held-read
-    walked used end before after rows a w z puts =
-        let p = puts (held-read used rows w a) in
-        let n : length before ≡ room = ap length z ∙ length-replicate {A = ℕ} room 0 in
-        let e : end ≡ length (house m (a .tokens)) = p .reach ∙ omega arith in
-        record { ends = e; kept = p .kept ∙ n; there = λ h. p .there (omega arith) ∙ rw z (sets-zeros room (house m (a .tokens)) (omega arith)) }
+    put-all = puts (held-read used rows w a)
 
-    -- 11: output and words are cleared
-    pub too-long : (used end : ℕ) (before after rows output words : List ℕ) → Accepts (readInto m ws) used → rows ≡ wordsAfter (length ws) (readInto m ws) → before ≡ zeros room
-        → ((h : Held rows 0 used) → Puts before after 0 end (house m (h .tokens))) → (leb end (length after) && leb end limit) ≡ false → output ≡ zeros (length after) → words ≡ zeros (length rows)
-        → length rows ≡ length ws → Leaves (fault outputTooLong 0) output words
-    unfolding readInto rewrite guard _>>=_ _>>_
-    too-long used end before after rows output words a r z puts t o w l =
-        let x = walked used end before after rows a r z puts in
-        leaves-fault outputTooLong 0 output words (rw (a .read, ← x .ends, rw (x .kept) at t)) (rw (x .kept) at o) (rw l at w)
+    ends : end ≡ length (house m (a .tokens))
+    ends = put-all .reach ∙ omega arith
 
-    -- done
-    pub written : (used end : ℕ) (before output rows : List ℕ) → Accepts (readInto m ws) used → rows ≡ wordsAfter (length ws) (readInto m ws) → before ≡ zeros room
-        → ((h : Held rows 0 used) → Puts before output 0 end (house m (h .tokens))) → (leb end (length output) && leb end limit) ≡ true → Leaves (done end) output rows
-    unfolding readInto rewrite guard bytesWritten outputAfter rewriteWordsAfter _>>=_ _>>_
-    written used end before output rows a r z puts t =
-        let x = walked used end before output rows a r z puts in
-        let k = rw (x .kept) at t in
-        let is : answer ≡ done (house m (a .tokens)) = rw (a .read, ← x .ends, k) in
+    only-house : end ≤ length before → clearedFrom after end ≡ filled (length before) (house m (a .tokens))
+    unfolding clearedFrom filled
+    only-house h =
+        let x = house m (a .tokens) in
+        let s = put-all .there h ∙ sets-eq x before 0 (let e = ends in omega arith) in
+        let front : take end after ≡ x = ap (take end) s ∙ take-at x _ end (sym ends) in
+        rw (front, put-all .kept, ends)
+
+    pub settled : {o : Outcome ℕ} {words output : List ℕ} → Settled end rows after o words output → Leaves (length before) o output words
+    unfolding readInto rewrite guard fitsIn bytesWritten outputAfter rewriteWordsAfter _>>=_ _>>_
+    settled (fitting t e) =
+        let k = rw (put-all .kept) at t in
+        let is : answer (length before) ≡ done (house m (a .tokens)) = rw (a .read, ← ends, k) in
         record {
-          answers = rw (is, x .ends);
-          output-is = rw is (x .there (leb-true end room (both-true (leb end room) _ k .0)));
-          words-are = rw is r;
+          answers = rw (is, ends);
+          output-is = rw is (e ∙ only-house (leb-true end (length before) (both-true (leb end (length before)) _ k .0)));
+          words-are = rw is w;
         }
+    settled {words = words} {output = output} (tooLong t z e) =
+        leaves-fault (length before) outputTooLong 0 output words (rw (a .read, ← ends, rw (put-all .kept) at t)) (rw (put-all .kept) at e) (rw kept at z)

@@ -1,22 +1,19 @@
 -- The walk over rows that hold tokens: the first token and the rest; and a token by how it is written. Assumes nothing.
 use Prim.Native.Nat.{ℕ, suc, _+_, _≤_, _<_}
-use mathlib.Core.Path.{_≡_, refl, sym, subst, ap, _∙_}
+use mathlib.Core.Path.{_≡_, refl, sym, ap, _∙_}
 use mathlib.Core.Bool.{Bool, true, false, true≢false, false≢true}
-use mathlib.Core.List.{List, [], _++_, append-assoc, append-nil}
+use mathlib.Core.List.{List, [], _++_}
 use native.Mathlib.Omega.{arith}
 use native.Mathlib.Numerals.{add-one}
-use lib.ListN.{length}
 use lib.Dec.{eqb}
 use borrow.Author.Tests.{eqb-true}
 use Rattle.format.specs.Conditions.{among}
 use Rattle.format.specs.Tokens.{Token, kindNumber, table, Forest, none, node, size}
-use Rattle.format.specs.Rows.{Row, word, rowAt, rowsIn, rowOf}
+use Rattle.format.specs.Rows.{Row, word, rowAt, rowOf}
 use Rattle.format.specs.HouseForm.{whole, token, written, house}
-use Rattle.laws.specs.Places.{At, here, under, later}
+use Rattle.laws.specs.Places.{here, under, later}
 use Rattle.storage.proofs.Places.{Rowed}
-use Rattle.writer.specs.Puts.{Puts}
 use Rattle.writer.specs.Pieces.{isSingle, single, head, middle, tail}
-use Rattle.writer.proofs.Putting.{puts-none, puts-append}
 use Rattle.rewriter.specs.Formed.{Formed, noToken, aSingle, aNested, aTable}
 use Rattle.rewriter.specs.Held.{Held, HeldToken}
 

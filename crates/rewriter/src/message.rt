@@ -6,23 +6,44 @@ use reader::message::read;
 use rows::clear;
 use rows::clear_bytes;
 ghost use mathlib.Core.Path.{_≡_};
-ghost use mathlib.Core.Bool.{_&&_};
-ghost use lib.Dec.{leb};
 ghost use lib.ListN.{length};
-ghost use Rattle.format.specs.Limits.{limit};
 ghost use Rattle.format.specs.Rows.{rowsIn};
 ghost use Rattle.format.specs.Read.{readInto};
 ghost use Rattle.format.specs.HouseForm.{rewrite as rewriteOf, bytesWritten, outputAfter, rewriteWordsAfter};
 ghost use Rattle.format.specs.Answers.{answered};
+ghost use Rattle.rewriter.specs.Settled.{clearedFrom, fitsIn, Settled};
+
+// Zeros the bytes from a place on.
+fn clear_from(output: &mut [u8], from: usize)
+    ensures { λ _. ⌜ now (output .exit) ≡ clearedFrom (now (output .entry)) from ⌝ }
+{
+    if output.len() <= from {
+        return;
+    }
+    clear_bytes(&mut output[from..]);
+}
 
 // Whether so many bytes fit the room, and the limit.
 fn fits(n: usize, room: usize) -> bool
-    ensures { λ r. ⌜ r ≡ (leb n room && leb n limit) ⌝ }
+    ensures { λ r. ⌜ r ≡ fitsIn room n ⌝ }
 {
     if room < n {
         return false;
     }
     n <= LIMIT as usize
+}
+
+// The answer once so many bytes were put: these, and zeros after them; or 11, with rows and output cleared.
+fn settle(rows: &mut [u32], output: &mut [u8], end: usize) -> Answer
+    ensures { λ r. ⌜ Settled end (now (rows .entry)) (now (output .entry)) (answered r) (now (rows .exit)) (now (output .exit)) ⌝ }
+{
+    if fits(end, output.len()) {
+        clear_from(output, end);
+        return Answer::Done(end);
+    }
+    clear(rows);
+    clear_from(output, 0);
+    Answer::Refused(11, 0)
 }
 
 // Writes a message in house form: the bytes written, or a refusal's number and place. The rows then hold the message's rows. What
@@ -32,17 +53,14 @@ pub fn rewrite(message: &[u8], rows: &mut [u32], output: &mut [u8]) -> Answer
     ensures output { λ _. ⌜ now (output .exit) ≡ outputAfter (length (now (output .entry))) (rewriteOf (now (message .entry)) (rowsIn (now (rows .entry))) (length (now (output .entry)))) ⌝ }
     ensures words { λ _. ⌜ now (rows .exit) ≡ rewriteWordsAfter (length (now (rows .entry))) (readInto (now (message .entry)) (now (rows .entry))) (rewriteOf (now (message .entry)) (rowsIn (now (rows .entry))) (length (now (output .entry)))) ⌝ }
 {
-    clear_bytes(output);
     match read(message, rows) {
-        Answer::Refused(n, p) => Answer::Refused(n, p),
+        Answer::Refused(n, p) => {
+            clear_bytes(output);
+            Answer::Refused(n, p)
+        }
         Answer::Done(used) => {
             let end = put_tokens(message, rows, output, 0, 0, used);
-            if fits(end, output.len()) {
-                return Answer::Done(end);
-            }
-            clear(rows);
-            clear_bytes(output);
-            Answer::Refused(11, 0)
+            settle(rows, output, end)
         }
     }
 }

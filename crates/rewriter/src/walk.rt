@@ -9,7 +9,7 @@ use writer::by_row::put_tail;
 use writer::kinds::TABLE;
 use writer::kinds::is_single;
 ghost use mathlib.Core.Path.{_≡_};
-ghost use mathlib.Core.Bool.{true, false};
+ghost use mathlib.Core.Bool.{true};
 ghost use Prim.Native.Nat.{_+_, _*_, _-_, _≤_, _<_};
 ghost use lib.Dec.{eqb};
 ghost use Rattle.format.specs.Tokens.{kindNumber, table as tableKind};
@@ -66,8 +66,9 @@ fn put_token(
     if r.kind == TABLE {
         return put_table(message, rows, output, at, row, link, r);
     }
+    let below = row + 1;
     let start = put_head(output, at, r);
-    let end = put_tokens(message, rows, output, start, row + 1, link);
+    let end = put_tokens(message, rows, output, start, below, link);
     put_tail(message, output, end, r)
 }
 

@@ -20,6 +20,10 @@ rowOf r = record {
   order = r .order;
 }
 
+-- no row: every word is 0
+abbrev pub noRow : Rows.Row
+noRow = record { kind = 0; mark = 0; first = 0; payload = 0; extent = 0; count = 0; link = 0; order = 0 }
+
 -- a row is stored whole, or not at all where the words have no such row
 unfoldable pub store : List ℕ → ℕ → Rows.Row → List ℕ
 store ws row r = if ltb row (rowsIn ws) then sets ws (row * rowWords) (layout r) else ws

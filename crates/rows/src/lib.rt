@@ -1,9 +1,9 @@
 // Lent memory: the row table, which is 32-bit words, eight to a row, and bytes.
 ghost use mathlib.Core.Path.{_≡_};
-ghost use Prim.Native.Nat.{_<_, _^_};
+ghost use Prim.Native.Nat.{_<_, _≤_, _^_};
 ghost use lib.ListN.{length};
 ghost use Rattle.format.specs.Rows.{rowsIn, rowAt, word as wordIn, zeros};
-ghost use Rattle.rows.specs.Row.{rowOf, store as storeIn};
+ghost use Rattle.rows.specs.Row.{rowOf, noRow, store as storeIn};
 
 // A row: its words by name, in their order.
 pub struct Row {
@@ -53,7 +53,8 @@ const NO_ROW: Row = Row {
 
 // A row of the table, whole; no row past the table's last.
 pub fn load(rows: &[u32], row: usize) -> Row
-    ensures { λ r. ⌜ (row < rowsIn (now (rows .entry)) → rowOf r ≡ rowAt (now (rows .entry)) row) ⌝ }
+    ensures there { λ r. ⌜ (row < rowsIn (now (rows .entry)) → rowOf r ≡ rowAt (now (rows .entry)) row) ⌝ }
+    ensures past { λ r. ⌜ (rowsIn (now (rows .entry)) ≤ row → rowOf r ≡ noRow) ⌝ }
 {
     let end = rows.len() / 8;
     if end <= row {

@@ -1,13 +1,10 @@
 -- Products that stop one over the limit, and a loop over dimensions: what was read so far lies in the words, and the product so far
 -- times that of what remains is the product of the whole. Assumes nothing.
-use Prim.Native.Nat.{ℕ, zero, suc, _+_, _*_, _≤_}
+use Prim.Native.Nat.{ℕ, suc, _+_, _*_, _≤_}
 use mathlib.Core.Path.{_≡_, refl, sym, ap, _∙_}
 use mathlib.Core.List.{List}
-use lib.Dec.{leb}
-use mathlib.Core.Bool.{Bool, true, false}
-use borrow.Author.Tests.{leb-true, leb-false}
 use native.Mathlib.Omega.{arith}
-use native.Mathlib.Nat.{mul-comm, mul-assoc, mul-one, one-mul, mul-zero, mul-le-mul, mul-le-mul-left, min-eq-left, min-eq-right}
+use native.Mathlib.Nat.{mul-comm, mul-assoc, mul-one, one-mul, mul-zero, mul-le-mul, min-eq-left}
 use Rattle.format.specs.Outcome.{Parsed, fault, done, _>>=_}
 use Rattle.format.specs.Limits.{limit}
 use Rattle.format.specs.Tokens.{Token, Forest, none, node, alone, plainCount, size, _⊕_, members, counts}
@@ -15,6 +12,7 @@ use Rattle.format.specs.Indexes.{product}
 use Rattle.format.specs.Dimensions.{Shape, shaped}
 use Rattle.format.specs.Rows.{rowOf, rows}
 use Rattle.format.specs.Sequences.{Reader, _⨾_}
+use Rattle.format.proofs.Products.{stopped-factor}
 use Rattle.rows.specs.Row.{store}
 use Rattle.rows.specs.Overlay.{lay}
 use Rattle.tokens.specs.Answers as Tokens
@@ -28,16 +26,7 @@ use Rattle.shapes.specs.Answers.{capped, Laid, Within, Told}
 
 -- a factor may be capped first
 pub capped-first : (a b : ℕ) → capped (capped a * b) ≡ capped (a * b)
-capped-first a zero = rw (mul-zero a, mul-zero (capped a))
-capped-first a (suc b) = go (leb a (limit + 1)) refl
-  where
-    go : (t : Bool) → leb a (limit + 1) ≡ t → capped (capped a * suc b) ≡ capped (a * suc b)
-    go true e = rw (min-eq-left (leb-true a (limit + 1) e))
-    go false e =
-        let h : limit + 1 ≤ a = omega (arith, leb-false a (limit + 1) e) in
-        let p : limit + 1 ≤ (limit + 1) * suc b = omega arith in
-        let q : limit + 1 ≤ a * suc b = omega (arith, mul-le-mul-left {m = 1} {n = suc b} a (omega arith), mul-one a) in
-        rw (min-eq-right h) (min-eq-right p ∙ sym (min-eq-right q))
+capped-first a b = stopped-factor (limit + 1) a b
 
 pub capped-other : (a b : ℕ) → capped (a * capped b) ≡ capped (a * b)
 capped-other a b = ap capped (mul-comm a (capped b)) ∙ capped-first b a ∙ ap capped (mul-comm b a)

@@ -3,20 +3,17 @@ use Prim.Native.Nat.{ℕ, _+_, _-_, _≤_}
 use mathlib.Core.Path.{_≡_, refl}
 use mathlib.Core.Bool.{Bool, true, false, _&&_, false≢true}
 use mathlib.Core.List.{List}
-use native.Mathlib.Omega.{arith}
 use lib.ListN.{length}
-use lib.Dec.{leb, eqb}
+use lib.Dec.{leb}
 use borrow.Author.Tests.{eq-eqb, ne-eqb, leb-true}
-use Rattle.format.specs.Conditions.{if_then_else_}
-use Rattle.format.specs.Outcome.{Outcome, fault, done, guard, _>>=_, _>>_}
+use Rattle.format.specs.Outcome.{fault, done, guard, _>>=_, _>>_}
 use Rattle.format.specs.Refusals.{rowsDontFit}
-use Rattle.format.specs.Marks.{'S', '['}
+use Rattle.format.specs.Marks.{'S'}
 use Rattle.format.specs.Bytes.{within}
 use Rattle.format.specs.Addresses.{Region, inside, tableSlot}
 use Rattle.format.specs.TextAnswers.{textInTable}
 use Rattle.format.specs.Answers.{firstAndWidth}
-use Rattle.laws.proofs.Holds.{Holds, refused, holds, bind-law, then-law, if-law, guard-law, any-law, of-done}
-use Rattle.addresses.specs.Slots.{slotOf}
+use Rattle.laws.proofs.Holds.{Holds, holds, bind-law, then-law, if-law, guard-law, any-law, of-done}
 
 module _ (m ws : List ℕ) (row leafRow : ℕ) (is : List ℕ) where
   pub text-refused : (n : ℕ) → tableSlot ws (length m) row leafRow is ≡ fault n 0 → fault n 0 ≡ firstAndWidth (textInTable m ws row leafRow is)

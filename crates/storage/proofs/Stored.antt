@@ -10,7 +10,6 @@ use Rattle.format.specs.Tokens.{Token, Kind, packed as packedKind, table as tab
 use Rattle.format.specs.Records.{totalWidth, atOffset, placed}
 use Rattle.format.specs.Sequences.{Reader, _⨾_, repeat, until, spaced}
 use Rattle.format.specs.Scalars as Scalars
-use Rattle.format.specs.Dimensions as Dimensions
 use Rattle.format.specs.Containers as Containers
 use Rattle.format.specs.Read as Read
 use Rattle.laws.specs.Places.{At, here, under, later, IsCut}

@@ -1,5 +1,5 @@
 -- What the answer to a payload that is stored under a type stands for.
-use Prim.Native.Nat.{ℕ, _+_, _^_, _≤_, _<_}
+use Prim.Native.Nat.{ℕ, _+_, _≤_}
 use Rattle.format.specs.Outcome.{Parsed, fault, done}
 use Rattle.format.specs.Refusals.{wrongContent}
 use Rattle.format.specs.Limits.{limit}

@@ -1,11 +1,10 @@
 -- The walk over the members of a schema: an equation for each way past a member, and the walk so far. Assumes nothing.
 use Prim.Native.Nat.{ℕ, zero, suc, _+_, _≤_, _<_}
 use mathlib.Core.Path.{_≡_, refl, sym, ap, subst, _∙_}
-use mathlib.Core.Bool.{Bool, true, false, not, _&&_}
+use mathlib.Core.Bool.{Bool, true, false}
 use mathlib.Core.List.{List}
 use native.Mathlib.Omega.{arith}
 use lib.ListN.{length}
-use lib.Dec.{ltb, eqb}
 use borrow.Author.Tests.{eq-eqb, ne-eqb, lt-ltb, le-ltb}
 use Rattle.format.specs.Conditions.{if_then_else_}
 use Rattle.format.specs.Outcome.{Outcome, fault, done, guard, _>>=_, _>>_}
@@ -15,7 +14,7 @@ use Rattle.format.specs.Addresses.{along, seek, isSchema, isKey, isMember, isLe
 use Rattle.ways.specs.Members.{memberFrom, outermostOf, passing, Goes, Passes, Steps}
 use Rattle.ways.specs.declared.members.Step.{Step}
 use Rattle.ways.specs.declared.members.Step.the-variants.{Refused, Leaf, Inside, Next}
-use Rattle.ways.proofs.Along.{followed, Followed}
+use Rattle.ways.proofs.Along.{followed}
 
 -- ---- at a member
 

@@ -24,7 +24,7 @@ use format::marks::TYPE;
 use format::marks::closing_mark;
 use rows::Row;
 ghost use mathlib.Core.Path.{_≡_};
-ghost use mathlib.Core.List.{[], _∷_, _++_};
+ghost use mathlib.Core.List.{_∷_, _++_};
 ghost use Prim.Native.Nat.{_<_, _^_};
 ghost use Rattle.format.specs.Bytes.{bytes};
 ghost use Rattle.format.specs.Marks.{'#', '$', '['};

@@ -39,7 +39,7 @@ module _ (c : tie.After-struct-known2 Inv-bytes μ-bytes Inv-members μ-members)
   is = rw (c .before .before .before .before .value .given .1) at (c .before .before .before .before .before .before .member .ensures)
 
   key-row : rowOf (c .before .before .load .result) ≡ rowAt (c .before .before .before .before .before .before .before .before .before .before .before .before .args .rows .now) (c .before .before .before .before .before .before .before .before .members .key)
-  key-row = c .before .before .load .ensures (omega (arith, c .before .before .before .before .before .before .before .members-test .taken, c .before .before .before .before .before .before .before .before .before .before .before .before .pre))
+  key-row = c .before .before .load .ensures .0 (omega (arith, c .before .before .before .before .before .before .before .members-test .taken, c .before .before .before .before .before .before .before .before .before .before .before .before .pre))
 
   reach : c .before .before .load .result .payload + c .before .before .load .result .extent ≤ length (c .before .before .before .before .before .before .before .before .before .before .before .before .args .message .now)
   reach = inside (c .before .before .before .before .before .before .before .before .before .before .before .before .args .message .now) _ _ (rw (← key-row) at (member-is _ _ _ _ _ (sym is) .inside))

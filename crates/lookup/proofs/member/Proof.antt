@@ -18,7 +18,7 @@ module _ (c : tie.After-load) where
   followed = sym (rw (c .before .before .next .given .1) at (c .before .before .before .before .along .ensures))
 
   key-row : rowOf (c .load .result) ≡ rowAt (c .before .before .before .before .before .before .before .args .rows .now) (c .before .before .before .before .before .before .before .args .key)
-  key-row = c .load .ensures (let f = Along.followed _ _ _ _ _ followed in omega (arith, f .before, c .before .before .before .before .before .before .before .pre))
+  key-row = c .load .ensures .0 (let f = Along.followed _ _ _ _ _ followed in omega (arith, f .before, c .before .before .before .before .before .before .before .pre))
 
 pub member-spec : {M : Type 1} → statement M
 member-spec =

@@ -12,7 +12,7 @@ unfolding Rows.rowsIn Rows.rowAt Rows.word
 load-spec =
     tie.close
     (tie.spec
-    (λ c h. absurd (omega arith))
+    (λ c. (λ h. absurd (omega arith), λ h. refl))
     (λ c. search needs)
     (λ c. search needs)
     (λ c. search needs)
@@ -37,4 +37,4 @@ load-spec =
     (λ c. search needs)
     (λ c. search needs)
     (λ c. search needs)
-    (λ c h. simp unary-clauses refl))
+    (λ c. (λ h. simp unary-clauses refl, λ h. absurd (omega arith))))

@@ -1,6 +1,5 @@
 -- `inside`: a capped place is inside exactly if the place is. Assumes nothing.
 use native.Mathlib.Omega.{arith}
-use borrow.Author.Needs.{needs}
 use Rattle.addresses.proofs.SlotCases.{inside-before, inside-past, inside-there}
 use Rattle.addresses.proofs.slots.inside.Statement.{statement}
 use Rattle.addresses.proofs.slots.inside.Tie as tie

@@ -1,5 +1,5 @@
 -- `packed`: the packed row, the indexes, and the place. Assumes nothing.
-use mathlib.Core.Path.{refl, sym, ap, _∙_}
+use mathlib.Core.Path.{sym, ap, _∙_}
 use native.Mathlib.Omega.{arith}
 use borrow.Author.Needs.{needs}
 use Rattle.format.specs.Answers.{found}
@@ -32,4 +32,4 @@ packed-spec =
     (λ c. omega (arith, c .before .before .width .ensures, width-few (c .before .before .before .of .result .0)))
     (λ c κs. c .before .before .before .before .before .before .before .before .before .before .before .before .before .before .before .pre)
     (λ c. let e = rw (c .before .before .before .before .before .before .before .count .ensures) at (sym (c .before .before .before .before .before .before .along .ensures)) ∙ ap found (c .before .before .before .before .enum-told .given .1) in packed-refused _ _ _ _ _ e _ (rw (c .before .number2 .given .1) at (c .before .before .before .positioned .ensures)))
-    (λ c. let e = rw (c .before .before .before .before .before .before .before .before .before .before .before .before .before .count .ensures) at (sym (c .before .before .before .before .before .before .before .before .before .before .before .before .along .ensures)) ∙ ap found (c .before .before .before .before .before .before .before .before .before .before .enum-told .given .1) in let f = followed _ _ _ _ _ e in packed-at _ _ _ _ _ e _ (rw (c .before .before .before .before .before .before .before .number3 .given .1) at (c .before .before .before .before .before .before .before .before .before .positioned .ensures)) _ (c .before .before .before .before .before .load .ensures (f .before)) (omega arith) _ (c .before .before .before .width .ensures ∙ rw (c .before .before .before .before .of .ensures) (letter-width _)) _ (c .before .start .ensures) _ (c .inside .ensures)))
+    (λ c. let e = rw (c .before .before .before .before .before .before .before .before .before .before .before .before .before .count .ensures) at (sym (c .before .before .before .before .before .before .before .before .before .before .before .before .along .ensures)) ∙ ap found (c .before .before .before .before .before .before .before .before .before .before .enum-told .given .1) in let f = followed _ _ _ _ _ e in packed-at _ _ _ _ _ e _ (rw (c .before .before .before .before .before .before .before .number3 .given .1) at (c .before .before .before .before .before .before .before .before .before .positioned .ensures)) _ (c .before .before .before .before .before .load .ensures .0 (f .before)) (omega arith) _ (c .before .before .before .width .ensures ∙ rw (c .before .before .before .before .of .ensures) (letter-width _)) _ (c .before .start .ensures) _ (c .inside .ensures)))

@@ -22,4 +22,4 @@ positioned-spec =
     (λ c κs. search needs)
     (λ c κs. sym (c .before .before .in-range .ensures) ∙ not-false _ (c .before .if1 .left))
     (λ c. position-refused _ _ _ _ _ (rw (c .before .number .given .1) at (c .before .before .before .before .extents .ensures)))
-    (λ c. let g = rw (c .before .before .before .before .before .before .many .given .1) at (c .before .before .before .before .before .before .before .before .before .extents .ensures) in position-at _ _ _ _ _ (g .0) (sym (c .before .before .before .in-range .ensures) ∙ not-false _ (c .before .before .if1 .left)) _ (c .before .load .ensures (c .before .before .before .before .before .before .before .before .before .before .before .before .before .pre .0)) _ (c .number2 .ensures)))
+    (λ c. let g = rw (c .before .before .before .before .before .before .many .given .1) at (c .before .before .before .before .before .before .before .before .before .extents .ensures) in position-at _ _ _ _ _ (g .0) (sym (c .before .before .before .in-range .ensures) ∙ not-false _ (c .before .before .if1 .left)) _ (c .before .load .ensures .0 (c .before .before .before .before .before .before .before .before .before .before .before .before .before .pre .0)) _ (c .number2 .ensures)))

@@ -1,5 +1,5 @@
 -- `table`: the table row, its schema, the leaf, the indexes, and the place. Assumes nothing.
-use mathlib.Core.Path.{refl, sym, ap, _∙_}
+use mathlib.Core.Path.{sym, ap, _∙_}
 use native.Mathlib.Omega.{arith}
 use borrow.Author.Needs.{needs}
 use Rattle.format.specs.Answers.{found}

@@ -184,9 +184,9 @@ put-token-put-head-requires : (t : ℕ) → put-token-lts.Need-put-head-requires
 put-token-put-head-requires t c κs =
     let w = c .before .before .before .before .before .before .before .before .pre .1 .1 .low in omega arith
 
-put-token-add-put-tokens : (t : ℕ) → put-token-lts.Need-add-put-tokens (put-token-calls t) (put-token-at t) put-token.Post
-put-token-add-put-tokens t c =
-    let h = c .before .before .before .before .before .before .before .before .before .before .before .before .pre .1 .0 .ends in omega arith
+put-token-add-below : (t : ℕ) → put-token-lts.Need-add-below (put-token-calls t) (put-token-at t) put-token.Post
+put-token-add-below t c =
+    let h = c .before .before .before .before .before .before .before .pre .1 .0 .ends in omega arith
 
 put-token-put-tokens-requires : (t : ℕ) → put-token-lts.Need-put-tokens-requires (put-token-calls t) (put-token-at t) put-token.Post
 put-token-put-tokens-requires t c κs =
@@ -239,19 +239,19 @@ put-tokens-cast-link t c =
 
 put-tokens-put-token-requires : (t : ℕ) → put-tokens-lts.Need-put-token-requires (put-tokens-calls t) (put-tokens-at t) put-tokens.Post put-tokens-Inv-loop put-tokens-μ-loop
 put-tokens-put-token-requires t c κs =
-    let g = c .before .before .before .before .loop .inv .4 (c .before .before .before .before .before .before .before .before .pre .1 .0) in let i = c .before .before .before .before .before .before .before .before .pre .1 .0 .inside in let s = held-step (g .left) _ _ (c .before .before .before .loop-test .taken) (c .before .before .load .ensures (omega (arith, c .before .before .before .loop-test .taken))) refl in
+    let g = c .before .before .before .before .loop .inv .4 (c .before .before .before .before .before .before .before .before .pre .1 .0) in let i = c .before .before .before .before .before .before .before .before .pre .1 .0 .inside in let s = held-step (g .left) _ _ (c .before .before .before .loop-test .taken) (c .before .before .load .ensures .0 (omega (arith, c .before .before .before .loop-test .taken))) refl in
     let w = c .before .before .before .before .before .before .before .before .pre .1 .1 .low in
     let n = c .before .before .before .before .loop .inv in
     (omega arith, (s .first, record { short = c .before .before .before .before .before .before .before .before .pre .1 .1 .short; low = omega arith }))
 
 put-tokens-loop-less : (t : ℕ) → put-tokens-lts.Need-loop-less (put-tokens-calls t) (put-tokens-at t) put-tokens.Post put-tokens-Inv-loop put-tokens-μ-loop
 put-tokens-loop-less t c =
-    let g = c .before .before .before .before .before .before .before .loop .inv .4 (c .before .before .before .before .before .before .before .before .before .before .before .pre .1 .0) in let i = c .before .before .before .before .before .before .before .before .before .before .before .pre .1 .0 .inside in let s = held-step (g .left) _ _ (c .before .before .before .before .before .before .loop-test .taken) (c .before .before .before .before .before .load .ensures (omega (arith, c .before .before .before .before .before .before .loop-test .taken))) refl in
+    let g = c .before .before .before .before .before .before .before .loop .inv .4 (c .before .before .before .before .before .before .before .before .before .before .before .pre .1 .0) in let i = c .before .before .before .before .before .before .before .before .before .before .before .pre .1 .0 .inside in let s = held-step (g .left) _ _ (c .before .before .before .before .before .before .loop-test .taken) (c .before .before .before .before .before .load .ensures .0 (omega (arith, c .before .before .before .before .before .before .loop-test .taken))) refl in
     omega arith
 
 put-tokens-loop-again : (t : ℕ) → put-tokens-lts.Need-loop-again (put-tokens-calls t) (put-tokens-at t) put-tokens.Post put-tokens-Inv-loop put-tokens-μ-loop
 put-tokens-loop-again t c =
-    let g = c .before .before .before .before .before .before .before .loop .inv .4 (c .before .before .before .before .before .before .before .before .before .before .before .pre .1 .0) in let i = c .before .before .before .before .before .before .before .before .before .before .before .pre .1 .0 .inside in let s = held-step (g .left) _ _ (c .before .before .before .before .before .before .loop-test .taken) (c .before .before .before .before .before .load .ensures (omega (arith, c .before .before .before .before .before .before .loop-test .taken))) refl in
+    let g = c .before .before .before .before .before .before .before .loop .inv .4 (c .before .before .before .before .before .before .before .before .before .before .before .pre .1 .0) in let i = c .before .before .before .before .before .before .before .before .before .before .before .pre .1 .0 .inside in let s = held-step (g .left) _ _ (c .before .before .before .before .before .before .loop-test .taken) (c .before .before .before .before .before .load .ensures .0 (omega (arith, c .before .before .before .before .before .before .loop-test .taken))) refl in
     let n = c .before .before .before .before .before .before .before .loop .inv in
     let b = c .before .before .put-token .ensures .1 in (
       omega arith,
@@ -260,7 +260,7 @@ put-tokens-loop-again t c =
       (let e = c .before .before .put-token .ensures .0 (s .first) .kept in e ∙ n .3),
       λ h.
           let g′ = n .4 h in
-          let s′ = held-step (g′ .left) _ _ (c .before .before .before .before .before .before .loop-test .taken) (c .before .before .before .before .before .load .ensures (omega (arith, c .before .before .before .before .before .before .loop-test .taken))) refl in
+          let s′ = held-step (g′ .left) _ _ (c .before .before .before .before .before .before .loop-test .taken) (c .before .before .before .before .before .load .ensures .0 (omega (arith, c .before .before .before .before .before .before .loop-test .taken))) refl in
           going-on g′ s′ (c .before .before .put-token .ensures .0 (s′ .first)),
     )
 
@@ -276,7 +276,7 @@ pub +put-table+put-token+put-tokens-spec : {M : Type 1} → statement M
 +put-table+put-token+put-tokens-spec =
     close μ-put-table μ-put-token μ-put-tokens (λ t. put-table-lts.spec (put-table-calls t) (put-table-at t)
     put-table.Post (put-table-add-below t) (put-table-word-requires t) (put-table-put-head-requires t) (put-table-put-tokens-requires t) (put-table-put-middle-requires t) (put-table-put-tokens-requires-2 t) (put-table-put-tail-requires t) (put-table-same-length t) (put-table-returns t)) (λ t. put-token-lts.spec (put-token-calls t) (put-token-at t)
-    put-token.Post (put-token-is-single-requires t) (put-token-put-single-requires t) (put-token-same-length t) (put-token-returns t) (put-token-put-table-requires t) (put-token-same-length-2 t) (put-token-returns-2 t) (put-token-put-head-requires t) (put-token-add-put-tokens t) (put-token-put-tokens-requires t) (put-token-put-tail-requires t) (put-token-same-length-3 t) (put-token-returns-3 t))
+    put-token.Post (put-token-is-single-requires t) (put-token-put-single-requires t) (put-token-same-length t) (put-token-returns t) (put-token-put-table-requires t) (put-token-same-length-2 t) (put-token-returns-2 t) (put-token-add-below t) (put-token-put-head-requires t) (put-token-put-tokens-requires t) (put-token-put-tail-requires t) (put-token-same-length-3 t) (put-token-returns-3 t))
     λ t. put-tokens-lts.spec (put-tokens-calls t) (put-tokens-at t)
     put-tokens.Post
     put-tokens-Inv-loop

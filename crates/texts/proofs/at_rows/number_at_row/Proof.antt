@@ -27,11 +27,11 @@ number-at-row-spec =
     (λ c. (no-row _ _ _ (rw (← c .before .count .ensures) (c .if1 .taken)), tt))
     (λ c κs. search needs)
     (λ c κs. search needs)
-    (λ c. (no-text _ _ _ (there (c .before .before .before)) _ (c .before .before .load .ensures (there (c .before .before .before))) (sym (c .before .is-text-row .ensures) ∙ not-true _ (c .if2 .taken)), tt))
+    (λ c. (no-text _ _ _ (there (c .before .before .before)) _ (c .before .before .load .ensures .0 (there (c .before .before .before))) (sym (c .before .is-text-row .ensures) ∙ not-true _ (c .if2 .taken)), tt))
     (λ c. search needs)
     (λ c. search needs)
     (λ c κs. search needs)
-    (λ c. (outside _ _ _ (there (c .before .before .before .before .before .before .before)) _ (c .before .before .before .before .before .before .load .ensures (there (c .before .before .before .before .before .before .before))) (text (c .before .before .before .before)) (sym (c .before .within .ensures) ∙ not-true _ (c .if3 .taken)), tt))
+    (λ c. (outside _ _ _ (there (c .before .before .before .before .before .before .before)) _ (c .before .before .before .before .before .before .load .ensures .0 (there (c .before .before .before .before .before .before .before))) (text (c .before .before .before .before)) (sym (c .before .within .ensures) ∙ not-true _ (c .if3 .taken)), tt))
     (λ c.
     let w = sym (c .before .within .ensures) ∙ not-false _ (c .if3 .left) in
-    (placed _ _ _ (there (c .before .before .before .before .before .before .before)) _ (c .before .before .before .before .before .before .load .ensures (there (c .before .before .before .before .before .before .before))) (text (c .before .before .before .before)) w, inside (c .before .before .before .before .before .before .before .before .before .before .before .args .message .now) _ _ w)))
+    (placed _ _ _ (there (c .before .before .before .before .before .before .before)) _ (c .before .before .before .before .before .before .load .ensures .0 (there (c .before .before .before .before .before .before .before))) (text (c .before .before .before .before)) w, inside (c .before .before .before .before .before .before .before .before .before .before .before .args .message .now) _ _ w)))

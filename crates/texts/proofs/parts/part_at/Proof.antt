@@ -2,7 +2,6 @@
 use mathlib.Core.Path.{_∙_}
 use native.Mathlib.Omega.{arith}
 use borrow.Author.Needs.{needs}
-use Rattle.format.specs.Answers.{located}
 use Rattle.format.proofs.Parts.{part-is}
 use Rattle.texts.proofs.TextCases.{no-part, the-part}
 use Rattle.texts.proofs.parts.part_at.Statement.{statement}

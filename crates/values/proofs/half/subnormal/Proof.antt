@@ -1,5 +1,4 @@
 -- `subnormal`: a loop that moves the digits up, a place a turn. Assumes nothing.
-use Prim.Native.Nat.{_-_}
 use mathlib.Core.Path.{refl}
 use native.Mathlib.Omega.{arith}
 use lib.Ieee.{odd, toBits}

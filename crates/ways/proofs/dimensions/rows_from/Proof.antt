@@ -1,6 +1,6 @@
 -- `rows_from`: each dimension is stored after those gathered. Assumes nothing.
 use Prim.Native.Nat.{_-_, _≤_}
-use mathlib.Core.Path.{_≡_, refl, sym, ap, _∙_}
+use mathlib.Core.Path.{_≡_, sym, ap, _∙_}
 use native.Mathlib.Omega.{arith}
 use borrow.Author.Needs.{needs}
 use lib.ListN.{length, take, length-set}
@@ -8,7 +8,6 @@ use lib.Seq.{length-take-le}
 use Rattle.format.specs.Answers.{found}
 use Rattle.format.specs.Limits.{dimensionLimit}
 use Rattle.format.specs.Rows.{rowsIn}
-use Rattle.format.specs.Addresses.{isDimension}
 use Rattle.ways.proofs.Along.{followed}
 use Rattle.ways.proofs.Extents.{Sofar, sofar-start, sofar-store, sofar-refused, sofar-ninth, sofar-end, sofar-none}
 use Rattle.ways.proofs.dimensions.rows_from.Statement.{statement}
@@ -45,7 +44,7 @@ rows-from-spec =
     let e = sym (c .before .before .before .before .before .along .ensures) ∙ ap found (c .before .before .before .next .given .1) in
     let i = c .before .before .before .before .before .before .before .loop .inv in
     let t = c .before .before .before .before .before .before .loop-test .taken in (
-      sofar-store _ _ _ _ (c .before .before .before .before .before .before .before .loop .row) _ (c .before .before .before .before .before .before .before .loop .many) _ (c .before .before .before .before .before .before .before .loop .into) (i .0) t e (omega (arith, i .2, i .1, c .before .if1 .left)) (ap (λ r. r .count) (c .load .ensures (omega (arith, t, c .before .before .before .before .before .before .before .before .before .before .pre .1)))),
+      sofar-store _ _ _ _ (c .before .before .before .before .before .before .before .loop .row) _ (c .before .before .before .before .before .before .before .loop .many) _ (c .before .before .before .before .before .before .before .loop .into) (i .0) t e (omega (arith, i .2, i .1, c .before .if1 .left)) (ap (λ r. r .count) (c .load .ensures .0 (omega (arith, t, c .before .before .before .before .before .before .before .before .before .before .pre .1)))),
       omega (arith, i .1, c .before .if1 .left),
       simp length-set (i .2),
     ))

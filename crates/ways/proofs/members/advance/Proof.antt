@@ -1,10 +1,8 @@
 -- `advance`: the member at this row, and the way past it. Assumes nothing.
-use mathlib.Core.Path.{sym, ap, subst, _∙_}
+use mathlib.Core.Path.{sym, ap, _∙_}
 use native.Mathlib.Omega.{arith}
 use borrow.Author.Needs.{needs}
-use Rattle.format.specs.Rows.{Row, rowsIn}
 use Rattle.format.specs.Answers.{found}
-use Rattle.ways.specs.Members.{memberFrom, Passes}
 use Rattle.ways.proofs.Fields.{advance-refused, advance-at}
 use Rattle.ways.proofs.members.advance.Statement.{statement}
 use Rattle.ways.proofs.members.advance.Tie as tie
@@ -14,9 +12,9 @@ advance-spec =
     tie.close
     (tie.spec
     (λ c κs. search needs)
-    (λ c κs. let e = ap (λ r. r .link) (c .load .ensures (c .before .before .pre .0)) in omega (arith, e, c .before .before .pre .1))
+    (λ c κs. let e = ap (λ r. r .link) (c .load .ensures .0 (c .before .before .pre .0)) in omega (arith, e, c .before .before .pre .1))
     (λ c. search needs)
     (λ c. search needs)
-    (λ c κs. let e = ap (λ r. r .link) (c .before .before .before .before .load .ensures (c .before .before .before .before .before .before .pre .0)) in omega (arith, e, c .before .before .before .before .before .before .pre .1))
-    (λ c. advance-refused _ _ _ _ _ (rw (← c .before .before .before .before .load .ensures (c .before .before .before .before .before .before .pre .0)) (sym (c .before .before .before .member .ensures) ∙ ap found (c .before .number .given .1))))
-    (λ c. let r = c .before .before .before .before .before .load .ensures (c .before .before .before .before .before .before .before .pre .0) in advance-at _ (c .before .before .before .before .before .before .before .args .leaf) _ _ _ (c .before .before .before .before .before .before .before .pre .1) (rw r at (sym (c .before .before .before .before .member .ensures) ∙ ap found (c .before .before .here .given .1))) (c .pass .result) (rw r at (c .pass .ensures))))
+    (λ c κs. let e = ap (λ r. r .link) (c .before .before .before .before .load .ensures .0 (c .before .before .before .before .before .before .pre .0)) in omega (arith, e, c .before .before .before .before .before .before .pre .1))
+    (λ c. advance-refused _ _ _ _ _ (rw (← c .before .before .before .before .load .ensures .0 (c .before .before .before .before .before .before .pre .0)) (sym (c .before .before .before .member .ensures) ∙ ap found (c .before .number .given .1))))
+    (λ c. let r = c .before .before .before .before .before .load .ensures .0 (c .before .before .before .before .before .before .before .pre .0) in advance-at _ (c .before .before .before .before .before .before .before .args .leaf) _ _ _ (c .before .before .before .before .before .before .before .pre .1) (rw r at (sym (c .before .before .before .before .member .ensures) ∙ ap found (c .before .before .here .given .1))) (c .pass .result) (rw r at (c .pass .ensures))))

@@ -1,10 +1,9 @@
 -- `field`: one member after another. Assumes nothing.
 use Prim.Native.Nat.{_-_, _≤_, _<_}
-use mathlib.Core.Path.{_≡_, refl, sym, ap, _∙_}
+use mathlib.Core.Path.{sym}
 use native.Mathlib.Omega.{arith}
 use borrow.Author.Needs.{needs}
 use Rattle.format.specs.Rows.{rowAt, rowsIn}
-use Rattle.ways.specs.Members.{Steps}
 use Rattle.ways.proofs.Fields.{Going, going-start, going-refused, going-leaf, going-inside, going-next, outermost-below}
 use Rattle.ways.proofs.members.field.Statement.{statement}
 use Rattle.ways.proofs.members.field.Tie as tie

@@ -1,7 +1,6 @@
 -- `outermost`: by whether a member was gone into. Assumes nothing.
 use Prim.Native.Nat.{ℕ, zero, suc}
-use mathlib.Core.Path.{_≡_, refl, sym}
-use native.Mathlib.Omega.{arith}
+use mathlib.Core.Path.{_≡_, refl}
 use Rattle.ways.specs.Members.{outermostOf}
 use Rattle.ways.proofs.members.outermost.Statement.{statement}
 use Rattle.ways.proofs.members.outermost.Tie as tie

@@ -1,7 +1,6 @@
 -- `fits`: what each need stands for. Assumes nothing.
 use mathlib.Core.Path.{refl}
 use borrow.Author.Needs.{needs}
-use Rattle.ways.specs.Needs.{fitsOf}
 use Rattle.ways.proofs.needs.fits.Statement.{statement}
 use Rattle.ways.proofs.needs.fits.Tie as tie
 

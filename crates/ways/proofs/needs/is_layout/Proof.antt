@@ -1,5 +1,5 @@
 -- `is_layout`: by rows or by columns. Assumes nothing.
-use mathlib.Core.Path.{refl, _∙_}
+use mathlib.Core.Path.{refl}
 use borrow.Author.Needs.{needs}
 use Rattle.format.specs.Marks.{'[', left-brace}
 use Rattle.ways.proofs.Letters.{either}

@@ -1,6 +1,4 @@
 -- `part`: none, all that is there, or all that was asked for. Assumes nothing.
-use mathlib.Core.Path.{sym}
-use native.Mathlib.Omega.{arith}
 use borrow.Author.Needs.{needs}
 use Rattle.format.proofs.Parts.{part-is}
 use Rattle.writer.proofs.Parts.{part-past, part-to-end}

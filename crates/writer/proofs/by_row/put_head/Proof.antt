@@ -1,5 +1,4 @@
 -- `put_head`: by the kind. Assumes nothing.
-use mathlib.Core.List.{[], _∷_}
 use borrow.Author.Needs.{needs}
 use borrow.Author.Tests.{ne-eqb}
 use Rattle.format.specs.Conditions.{if_then_else_}

@@ -1,5 +1,4 @@
 -- `put_middle`: `#`, and the start of the shape. Assumes nothing.
-use mathlib.Core.List.{[], _∷_}
 use borrow.Author.Needs.{needs}
 use Rattle.writer.specs.Pieces.{middle}
 use Rattle.writer.proofs.Putting.{puts-append}

@@ -1,5 +1,4 @@
 -- `put_packed`: four marks, and the start of the shape. Assumes nothing.
-use mathlib.Core.List.{[], _∷_}
 use borrow.Author.Needs.{needs}
 use Rattle.writer.proofs.Putting.{puts-append}
 use Rattle.writer.proofs.by_row.put_packed.Statement.{statement}

@@ -1,8 +1,6 @@
 -- `put_leaf`: by whether the mark is `S`. Assumes nothing.
-use mathlib.Core.Path.{refl, _∙_}
-use mathlib.Core.List.{[], _∷_}
+use mathlib.Core.Path.{_∙_}
 use native.Mathlib.Omega.{arith}
-use borrow.Author.Needs.{needs}
 use borrow.Author.Tests.{eq-eqb, ne-eqb}
 use Rattle.format.specs.Conditions.{if_then_else_}
 use Rattle.writer.proofs.Putting.{puts-append}

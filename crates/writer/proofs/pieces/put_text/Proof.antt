@@ -1,5 +1,4 @@
 -- `put_text`: the mark, and then as a key. Assumes nothing.
-use mathlib.Core.List.{[], _∷_}
 use borrow.Author.Needs.{needs}
 use Rattle.writer.proofs.Putting.{puts-append}
 use Rattle.writer.proofs.pieces.put_text.Statement.{statement}

@@ -1,5 +1,5 @@
 -- `Mark::is_leaf`: a leaf that is its mark alone, or `S`. Assumes nothing.
-use mathlib.Core.Path.{refl, sym}
+use mathlib.Core.Path.{refl}
 use borrow.Author.Needs.{needs}
 use Rattle.format.specs.Marks.{isLeaf}
 use Rattle.format.proofs.marks.Mark.is_leaf.Statement.{statement}

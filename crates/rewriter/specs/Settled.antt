@@ -1,0 +1,25 @@
+-- What is left of output and rows once so many bytes were put.
+use Prim.Native.Nat.{ℕ, _-_}
+use mathlib.Core.Path.{_≡_}
+use mathlib.Core.Bool.{Bool, true, false, _&&_}
+use mathlib.Core.List.{List, _++_}
+use lib.ListN.{length, take}
+use lib.Dec.{leb}
+use Rattle.format.specs.Outcome.{Outcome, fault, done}
+use Rattle.format.specs.Limits.{limit}
+use Rattle.format.specs.Refusals.{outputTooLong}
+use Rattle.format.specs.Rows.{zeros}
+
+-- the bytes before a place, and zeros from there on
+unfoldable pub clearedFrom : List ℕ → ℕ → List ℕ
+clearedFrom l from = take from l ++ zeros (length l - from)
+
+-- so many bytes fit the room, and the limit
+unfoldable pub fitsIn : ℕ → ℕ → Bool
+fitsIn room n = leb n room && leb n limit
+
+-- what was put stays where it fits; else all is zero
+pub data Settled (end : ℕ) (rows output : List ℕ) : Outcome ℕ → List ℕ → List ℕ → Type 0 where
+  fitting : {output′ : List ℕ} → fitsIn (length output) end ≡ true → output′ ≡ clearedFrom output end → Settled end rows output (done end) rows output′
+  tooLong : {rows′ output′ : List ℕ} → fitsIn (length output) end ≡ false → rows′ ≡ zeros (length rows) → output′ ≡ zeros (length output)
+      → Settled end rows output (fault outputTooLong 0) rows′ output′
