@@ -27,7 +27,7 @@ use Rattle.contents.specs.Walks.{Walks}
 use Rattle.contents.specs.declared.columns.Walk.{Walk}
 use Rattle.contents.proofs.LeafByLeaf.{columns-most}
 use Rattle.contents.proofs.Inverse.{never, done-pair, bind-done, then-done, Both}
-use Rattle.contents.proofs.Members.{KeyRead, keyed-plain, keyed-read, Sums, run, Rest, rest-turn, rest-there, rest-on, rest-closed, rest-next}
+use Rattle.contents.proofs.Members.{alike, KeyRead, keyed-plain, keyed-read, Sums, run, Rest, rest-turn, rest-there, rest-on, rest-closed, rest-next}
 
 -- ---- where a member's kind begins
 
@@ -189,12 +189,13 @@ module _ (m : List ℕ) (lent l : ℕ) (b : Bool) {adv : Forest → ℕ} {low : 
 pub group-turned : (m : List ℕ) (lent l : ℕ) (b : Bool) (stride n : ℕ) {most i place best next place′ best′ : ℕ}
     (r : RestOf m lent l (openingOf b) totalWidth (inColumns m stride n) most i place best next place′ best′) (from : ℕ) (w : Walk)
     → Fits m stride n place′ → Afters m b i from → Walks m (λ k. kindOf m k l) from stride n place best w → Turned m lent l b r w
-group-turned m lent l b stride n {place = place} {place′ = place′} r from w fits a walks =
+group-turned m lent l b stride n {place = place} {place′ = place′} r from w fits after walks =
     let t = turn m lent l b r in
-    let k = turn-keyed m lent l b r from a in
+    let k = turn-keyed m lent l b r from after in
     let e = ap totalWidth (t .is) ∙ width-append (t .former) (t .latter) in
     let p = r .onward in
-    let q = k .alike .wide in
+    let a = alike (k .unkeyed) in
+    let q = a .wide in
     let h : place + totalWidth (k .member) ≤ place′ = omega arith in
     let o = walks lent (k .row) (t .mid) (k .member) (k .lentRow) (k .reads) (fits-less h fits) in
-    record { ended = o .ended; moved = o .onward ∙ rw q; lowered = o .lowest ∙ rw (k .alike .columns m stride n place) }
+    record { ended = o .ended; moved = o .onward ∙ rw q; lowered = o .lowest ∙ rw (a .columns m stride n place) }

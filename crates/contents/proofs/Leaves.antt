@@ -72,7 +72,7 @@ module _ (m : List ℕ) (lent : ℕ) (nest : Opening → Reader) (at row : ℕ) 
 
 -- ---- a walk over a leaf
 
-leaf-wide : (mark at w : ℕ) → totalWidth (leaf mark at w) ≡ w
+pub leaf-wide : (mark at w : ℕ) → totalWidth (leaf mark at w) ≡ w
 unfolding leaf totalWidth memberWidth isKind if_then_else_
 leaf-wide mark at w = omega arith
 

@@ -23,7 +23,7 @@ use Rattle.laws.proofs.Holds.{of-done}
 use Rattle.laws.proofs.Loops.{until-step}
 use Rattle.laws.proofs.Bounds.{Bounded, byte-law, oneOf-law, payloadEnd-law, key-bounded, seq-bounded, eased}
 use Rattle.contents.specs.Least.{inColumns, inFields}
-use Rattle.contents.specs.Items.{itemOf, Alike, Keyed}
+use Rattle.contents.specs.Items.{itemOf, Unkeyed, bare, named, Keyed}
 use Rattle.contents.proofs.LeafByLeaf.{columns-most, fields-most, columns-append, fields-append}
 use Rattle.contents.proofs.Inverse.{done-pair, bind-done, then-done, Both, seq-done}
 
@@ -83,35 +83,40 @@ module _ (m : List ℕ) (lent at row : ℕ) where
         is = sym (p .0);
       }
 
+-- tokens that are as wide, and that hold the same leaves
+pub record Alike (f g : Forest) : Type 0 where
+  pub wide : totalWidth f ≡ totalWidth g
+  pub columns : (m : List ℕ) (stride n place : ℕ) → inColumns m stride n f place ≡ inColumns m stride n g place
+  pub fields : (m : List ℕ) (n place : ℕ) → inFields m n f place ≡ inFields m n g place
+
 -- a key takes no bytes of a record
-key-alike : (t : Token) (g : Forest) → t .kind ≡ keyKind → Alike (alone t ⊕ g) g
-unfolding _⊕_ totalWidth inColumns inFields memberWidth isKind if_then_else_
-key-alike t g k = record {
+pub alike : {f g : Forest} → Unkeyed f g → Alike f g
+unfolding totalWidth inColumns inFields memberWidth isKind if_then_else_
+alike bare = record { wide = refl; columns = λ m stride n place. refl; fields = λ m n place. refl }
+alike (named {t = t} {f = g} k) = record {
   wide = rw k (omega arith);
   columns = λ m stride n place. let y = columns-most m stride n g place in let z : place + 0 ≡ place = omega arith in rw (k, z) (omega arith);
   fields = λ m n place. let y = fields-most m n g place in let z : place + n * 0 ≡ place = omega arith in rw (k, z) (omega arith);
 }
-
-alike-self : (f : Forest) → Alike f f
-alike-self f = record { wide = refl; columns = λ m stride n place. refl; fields = λ m n place. refl }
 
 -- ---- members
 
 module _ (m : List ℕ) (lent : ℕ) (kind : Reader) where
   -- without a key
   pub keyed-plain : (row next at : ℕ) (f : Forest) → row ≤ lent → kind at row ≡ done (f, next) → Keyed lent kind f next at
-  keyed-plain row next at f l e = record { row = row; lentRow = l; member = f; reads = e; alike = alike-self f }
+  keyed-plain row next at f l e = record { row = row; lentRow = l; member = f; reads = e; unkeyed = bare }
 
   -- with one
   pub keyed-read : (row next at : ℕ) (f : Forest) → row ≤ lent → at ≤ length m → (key m lent ⨾ kind) at row ≡ done (f, next)
       → (r : ℕ) → ((g : Forest) (end : ℕ) → KeyRead m lent at row g end → r ≡ end) → Keyed lent kind f next r
+  unfolding _⊕_
   keyed-read row next at f l h e r k =
       let b = seq-done (key m lent) kind at row f next e in
       let x = key-done m lent at row (b .former) (b .mid) (b .first) in
       let y = of-done (b .former, b .mid) (key-bounded m lent at row (omega arith) (omega arith)) (b .first) in
       let i : f ≡ alone (uncounted keyKind 'S' at (x .start) (x .long)) ⊕ b .latter = b .is ∙ ap (λ (g : Forest). g ⊕ b .latter) (x .is) in
-      let a : Alike f (b .latter) = subst (λ (g : Forest). Alike g (b .latter)) (sym i) (key-alike (uncounted keyKind 'S' at (x .start) (x .long)) (b .latter) refl) in
-      record { row = row + size (b .former); lentRow = y .lent; member = b .latter; reads = rw (k _ _ x) (b .second); alike = a }
+      let u : Unkeyed f (b .latter) = subst (λ (g : Forest). Unkeyed g (b .latter)) (sym i) (named refl) in
+      record { row = row + size (b .former); lentRow = y .lent; member = b .latter; reads = rw (k _ _ x) (b .second); unkeyed = u }
 
   -- a member, of a schema or a fixed array
   module _ (kind-there : (a row : ℕ) (r : Forest × ℕ) → kind a row ≡ done r → a < length m) (bounded : Bounded m lent 0 0 1 kind) where
@@ -141,52 +146,80 @@ module _ (m : List ℕ) (lent : ℕ) (kind : Reader) where
       pub onward : place + adv members ≡ place′
       pub lowest : min best (low members place) ≡ best′
 
-    module _ {o : Opening} {adv : Forest → ℕ} {low : Forest → ℕ → ℕ} {most at place best next place′ best′ : ℕ} (r : Rest o adv low most at place best next place′ best′) where
+    -- members that were read
+    pub record Run (o : Opening) (at row : ℕ) (f : Forest) (end : ℕ) : Type 0 where
+      pub lentRow : row ≤ lent
+      pub reads : run o at row ≡ done (f, end)
+
+    module _ {o : Opening} {at row end : ℕ} {f : Forest} (r : Run o at row f end) where
       -- the next of them, and the others
-      pub rest-turn : Both (itemOf m lent o kind) (until m (length m) (λ here. here) (closes o) (itemOf m lent o kind)) at (r .row) (r .members) (r .end)
+      pub run-turn : Both (itemOf m lent o kind) (until m (length m) (λ here. here) (closes o) (itemOf m lent o kind)) at row f end
       unfolding run
-      rest-turn = seq-done _ _ at (r .row) (r .members) (r .end) (r .reads)
+      run-turn = seq-done _ _ at row f end (r .reads)
 
-      pub rest-there : at < length m
-      rest-there = item-there o at (r .row) (rest-turn .mid) (rest-turn .former) (rest-turn .first)
+      pub run-there : at < length m
+      run-there = item-there o at row (run-turn .mid) (run-turn .former) (run-turn .first)
 
-      rest-read : (at + 1 ≤ rest-turn .mid) × (r .row + size (rest-turn .former) ≤ lent)
-      rest-read =
-          let h = rest-there in
-          let y = of-done (rest-turn .former, rest-turn .mid) (item-bounded o at (r .row) (omega arith) (let l = r .lentRow in omega arith)) (rest-turn .first) in
-          (y .on, y .lent)
-
-      pub rest-on : at < rest-turn .mid
-      rest-on = omega (arith, rest-read .0)
+      pub run-read : (at < run-turn .mid) × (row + size (run-turn .former) ≤ lent)
+      run-read =
+          let h = run-there in
+          let l = r .lentRow in
+          let y = of-done (run-turn .former, run-turn .mid) (item-bounded o at row (omega arith) (omega arith)) (run-turn .first) in
+          let u = y .on in
+          (omega arith, y .lent)
 
       -- what follows it
-      rest-after : (byte m (rest-turn .mid) >>= (λ b. if eqb b (closes o) then done (none, rest-turn .mid) else run o (rest-turn .mid) (r .row + size (rest-turn .former)))) ≡ done (rest-turn .latter, r .end)
+      run-after : (byte m (run-turn .mid) >>= (λ b. if eqb b (closes o) then done (none, run-turn .mid) else run o (run-turn .mid) (row + size (run-turn .former)))) ≡ done (run-turn .latter, end)
       unfolding run
-      rest-after = sym (until-step m lent (λ here. here) (closes o) (itemOf m lent o kind) (λ a. omega arith) (item-bounded o) (rest-turn .mid) (r .row + size (rest-turn .former)) (rest-read .1)) ∙ rest-turn .second
+      run-after = sym (until-step m lent (λ here. here) (closes o) (itemOf m lent o kind) (λ a. omega arith) (item-bounded o) (run-turn .mid) (row + size (run-turn .former)) (run-read .1)) ∙ run-turn .second
 
       byte-there : (a b : ℕ) → byte m a ≡ done b → (a < length m) × (b ≡ getD m a 0)
       byte-there a b e = (of-done b (byte-law m {S = Unit {0}} a) e, byte-is m lent a 0 b e)
 
+      -- the closing mark stands there
+      pub run-closed : getD m (run-turn .mid) 0 ≡ closes o → (f ≡ run-turn .former) × (end ≡ run-turn .mid)
+      unfolding if_then_else_
+      run-closed c =
+          let x = bind-done (byte m (run-turn .mid)) _ run-after in
+          let b = byte-there (run-turn .mid) (x .0) (x .1) .1 in
+          let y = done-pair (rw (eq-eqb _ _ (b ∙ c)) at (x .2)) in
+          (run-turn .is ∙ ap (λ (g : Forest). run-turn .former ⊕ g) (sym (y .0)) ∙ append-none (run-turn .former), sym (y .1))
+
+      -- another follows
+      pub run-next : (run-turn .mid < length m → getD m (run-turn .mid) 0 ≡ closes o → ⊥) → run o (run-turn .mid) (row + size (run-turn .former)) ≡ done (run-turn .latter, end)
+      unfolding if_then_else_
+      run-next c =
+          let x = bind-done (byte m (run-turn .mid)) _ run-after in
+          let h = byte-there (run-turn .mid) (x .0) (x .1) in
+          rw (ne-eqb _ _ (λ q. c (h .0) (sym (h .1) ∙ q))) at (x .2)
+
+    module _ {o : Opening} {adv : Forest → ℕ} {low : Forest → ℕ → ℕ} {most at place best next place′ best′ : ℕ} (r : Rest o adv low most at place best next place′ best′) where
+      abbrev rest-run : Run o at (r .row) (r .members) (r .end)
+      rest-run = record { lentRow = r .lentRow; reads = r .reads }
+
+      -- the next of them, and the others
+      abbrev pub rest-turn : Both (itemOf m lent o kind) (until m (length m) (λ here. here) (closes o) (itemOf m lent o kind)) at (r .row) (r .members) (r .end)
+      rest-turn = run-turn rest-run
+
+      pub rest-there : at < length m
+      rest-there = run-there rest-run
+
+      pub rest-on : at < rest-turn .mid
+      rest-on = run-read rest-run .0
+
       module _ (sums : Sums adv low) (place₂ best₂ : ℕ) (moved : place₂ ≡ place + adv (rest-turn .former)) (lowered : best₂ ≡ min best (low (rest-turn .former) place)) where
         -- the closing mark stands there
         pub rest-closed : getD m (rest-turn .mid) 0 ≡ closes o → (next ≡ rest-turn .mid + 1) × ((place₂ ≡ place′) × (best₂ ≡ best′))
-        unfolding if_then_else_
         rest-closed c =
-            let x = bind-done (byte m (rest-turn .mid)) _ rest-after in
-            let b = byte-there (rest-turn .mid) (x .0) (x .1) .1 in
-            let y = done-pair (rw (eq-eqb _ _ (b ∙ c)) at (x .2)) in
-            let i : r .members ≡ rest-turn .former = rest-turn .is ∙ ap (λ (g : Forest). rest-turn .former ⊕ g) (sym (y .0)) ∙ append-none (rest-turn .former) in
+            let y = run-closed rest-run c in
+            let i = y .0 in
             let z = y .1 in
             let w = r .ended in
             (omega arith, (moved ∙ ap (λ (g : Forest). place + adv g) (sym i) ∙ r .onward, lowered ∙ ap (λ (g : Forest). min best (low g place)) (sym i) ∙ r .lowest))
 
         -- another follows
         pub rest-next : (rest-turn .mid < length m → getD m (rest-turn .mid) 0 ≡ closes o → ⊥) → Rest o adv low most (rest-turn .mid) place₂ best₂ next place′ best′
-        unfolding if_then_else_
         rest-next c =
-            let x = bind-done (byte m (rest-turn .mid)) _ rest-after in
-            let h = byte-there (rest-turn .mid) (x .0) (x .1) in
-            let y = rw (ne-eqb _ _ (λ q. c (h .0) (sym (h .1) ∙ q))) at (x .2) in
             let f = rest-turn .former in
             let g = rest-turn .latter in
             let i = rest-turn .is in
@@ -196,10 +229,10 @@ module _ (m : List ℕ) (lent : ℕ) (kind : Reader) where
             let q = r .lowest in
             record {
               row = r .row + size f;
-              lentRow = rest-read .1;
+              lentRow = run-read rest-run .1;
               members = g;
               end = r .end;
-              reads = y;
+              reads = run-next rest-run c;
               ended = r .ended;
               within = let v = r .within in let e = ap totalWidth i ∙ width-append f g in omega arith;
               onward = omega arith;

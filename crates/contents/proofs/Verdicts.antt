@@ -28,6 +28,7 @@ use Rattle.contents.specs.Tables.{TableAt, FieldFits, FieldOver, FieldWa
 use Rattle.contents.specs.declared.columns.Walk.{Walk}
 use Rattle.contents.proofs.Tiles.{verdict, contents-least}
 use Rattle.contents.proofs.LeafByLeaf.{columns-most, fields-most, least-rows, least-by-columns}
+use Rattle.contents.proofs.Members.{alike}
 use Rattle.contents.proofs.Groups.{kindOf, Opened, opened, not-nested, group-wide, group-columns, group-below, rest-start, RestOf, Afters, turn, turn-keyed, Turned}
 
 -- ---- a kind is one token, with those below it
@@ -51,7 +52,7 @@ module _ (m : List ℕ) (lent : ℕ) where
   nested-single zero o at row = holds-of _ (λ a e. absurd (not-nested m lent 0 o at row (a .0) (a .1) refl e))
   nested-single (suc k) o at row = holds-of _ (λ a e. let x = opened m lent (suc k) k o at row (a .0) (a .1) refl e in record { token = _; under = x .under; is = x .is })
 
-  kind-single : (levels at row : ℕ) → Holds (Unit {0}) (λ r. Single (r .0)) (kindOf m lent levels at row)
+  pub kind-single : (levels at row : ℕ) → Holds (Unit {0}) (λ r. Single (r .0)) (kindOf m lent levels at row)
   unfolding kindBy plainLeaf textLeaf
   kind-single levels at row = bind-law (any-law _) λ mark _.
       if-law _ (λ h. then-law (any-law _) λ _. holds (leaf-single mark at _)) λ _.
@@ -98,17 +99,18 @@ field-over m n place at best wide w k lent row next f l e i q =
 pub fields-turned : (m : List ℕ) (lent n : ℕ) {most i place best next place′ best′ : ℕ}
     (r : RestOf m lent 7 brace (λ f. n * totalWidth f) (inFields m n) most i place best next place′ best′) (from : ℕ) (w : Walk)
     → most ≤ recordLimit → n ≤ limit → length m ≤ limit → place′ ≤ length m → Afters m true i from → FieldWalks m from n place best w → Turned m lent 7 true r w
-fields-turned m lent n {most = most} {place = place} {place′ = place′} r from w narrow few short inside a walks =
+fields-turned m lent n {most = most} {place = place} {place′ = place′} r from w narrow few short inside after walks =
     let t = turn m lent 7 true r in
-    let k = turn-keyed m lent 7 true r from a in
+    let k = turn-keyed m lent 7 true r from after in
+    let a = alike (k .unkeyed) in
     let e = ap totalWidth (t .is) ∙ width-append (t .former) (t .latter) in
     let s = ap (λ (x : ℕ). n * x) e ∙ mul-add n (totalWidth (t .former)) (totalWidth (t .latter)) in
     let p = r .onward in
     let v = r .within in
-    let q = k .alike .wide in
+    let q = a .wide in
     let z = ap (λ (x : ℕ). n * x) q in
     let o = walks lent (k .row) (t .mid) (k .member) (k .lentRow) (k .reads) (record { narrow = omega arith; few = few; short = short; inside = omega arith }) in
-    record { ended = o .ended; moved = o .onward ∙ rw q; lowered = o .lowest ∙ rw (k .alike .fields m n place) }
+    record { ended = o .ended; moved = o .onward ∙ rw q; lowered = o .lowest ∙ rw (a .fields m n place) }
 
 -- ---- a table
 

@@ -12,4 +12,5 @@ pub mod Rules
 pub mod Related
 pub mod Keeps
 pub mod Added
+pub mod Faults
 pub mod Reading

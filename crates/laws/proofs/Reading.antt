@@ -1,14 +1,16 @@
 -- What always holds of reading, for all messages and all numbers of rows lent. Assumes nothing.
 use Prim.Native.Nat.{ℕ, _≤_}
 use mathlib.Core.Path.{_≡_, refl}
+use mathlib.Core.Bool.{Bool, true, false}
 use mathlib.Core.List.{List, [], _++_, append-nil}
 use mathlib.Core.Logic.{inl, inr}
 use native.Mathlib.Omega.{arith}
 use lib.ListN.{length, length-append}
-use borrow.Author.Tests.{le-leb}
-use Rattle.format.specs.Outcome.{fault, done, numberOf, _>>_, guard}
+use lib.Dec.{leb}
+use borrow.Author.Tests.{le-leb, leb-true}
+use Rattle.format.specs.Outcome.{Outcome, fault, done, numberOf, _>>_, guard}
 use Rattle.format.specs.Limits.{limit, valueLevels}
-use Rattle.format.specs.Refusals.{endsTooEarly, noRowLeft}
+use Rattle.format.specs.Refusals.{messageTooLong, endsTooEarly, noRowLeft}
 use Rattle.format.specs.Tokens.{Forest, size}
 use Rattle.format.specs.Rows.{allRows}
 use Rattle.format.specs.Bytes.{skip}
@@ -30,6 +32,15 @@ unfolding allRows
 rows-are-tokens f = length-rows 0 f
 
 module _ (m : List ℕ) (rowsLent : ℕ) where
+  -- An accepted message is within the limit.
+  pub accepted-short : (f : Forest) → read m rowsLent ≡ done f → length m ≤ limit
+  unfolding read guard _>>_
+  accepted-short f e = go (leb (length m) limit) refl _ e
+    where
+      go : (b : Bool) → leb (length m) limit ≡ b → (rest : Outcome Forest) → (guard b messageTooLong 0 >> rest) ≡ done f → length m ≤ limit
+      go true t rest e = leb-true (length m) limit t
+      go false t rest e = let z : _≡_ {A = ℕ} 0 1 = cc in absurd (omega arith)
+
   -- An accepted message has at most as many rows as bytes, and at most as many as are lent.
   pub rows-few : (f : Forest) → read m rowsLent ≡ done f → (size f ≤ length m) × (size f ≤ rowsLent)
   rows-few f e =

@@ -63,10 +63,10 @@ unfolding countFrom
 of-count k zero m = absurd (List·Memᴰ·not-nil m)
 of-count k (suc n) m = elim (List·Memᴰ·cases-cons m) [ inl e ↦ omega arith | inr r ↦ (let x = of-count (suc k) n r in omega arith) ]
 
-in-below : (i n : ℕ) → i < n → List·Memᴰ i (below n)
+pub in-below : (i n : ℕ) → i < n → List·Memᴰ i (below n)
 in-below i n h = in-count i 0 n (omega arith) (omega arith)
 
-of-below : {i : ℕ} (n : ℕ) → List·Memᴰ i (below n) → i < n
+pub of-below : {i : ℕ} (n : ℕ) → List·Memᴰ i (below n) → i < n
 of-below n m = let x = of-count 0 n m in omega arith
 
 module _ {A B : Type 0} (f : A → List B) where
@@ -152,7 +152,7 @@ unfolding countFrom
 numbered-count k zero = ended (omega arith)
 numbered-count k (suc n) = step refl (numbered-at (suc k) (k + suc n) refl (omega arith) (numbered-count (suc k) n))
 
-numbered-below : (n : ℕ) → Numbered (λ i. i) n 0 (below n)
+pub numbered-below : (n : ℕ) → Numbered (λ i. i) n 0 (below n)
 numbered-below n = numbered-at 0 n refl (omega arith) (numbered-count 0 n)
 
 -- a list of things made of others, whose numbers are `base` higher

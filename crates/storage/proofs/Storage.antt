@@ -72,6 +72,12 @@ module _ (row : ℕ) (t : Token) (below : Forest) (ok : IsPacked t below) where
 
 -- ---- a table
 
+-- an opening's mark tells the layout
+pub layout-is : (o : Opening) → layoutOf (opens o) ≡ o
+unfolding layoutOf opens if_then_else_
+layout-is bracket = refl
+layout-is brace = refl
+
 module _ (row : ℕ) (t s : Token) (members dims : Forest) (ok : IsTable t s members dims) where
   -- its dimensions
   abbrev ds : List ℕ
@@ -83,11 +89,6 @@ module _ (row : ℕ) (t s : Token) (members dims : Forest) (ok : IsTable t s mem
 
   pub table-numbered : Numbered (numberIn (t .order) ds) (t .count) 0 (indexes (t .order) ds)
   table-numbered = numbered (t .order) (t .count) ds (ap product table-dimensions ∙ counted (ok .shaped))
-
-  layout-is : (o : Opening) → layoutOf (opens o) ≡ o
-  unfolding layoutOf opens if_then_else_
-  layout-is bracket = refl
-  layout-is brace = refl
 
   table-storage : storage row t (node s members dims) ≡ records (ok .opening) (memberRow row) members (indexes (t .order) ds)
   unfolding storage slotsOf isKind if_then_else_ belowFirst

@@ -1,6 +1,6 @@
 -- `answers::signed`: by whether the number is negative. Assumes nothing.
 use borrow.Author.Needs.{needs}
-use Rattle.calls.proofs.Magnitudes.{plain, less-fits, less-casts, more-fits}
+use Rattle.values.proofs.Magnitudes.{plain, less-fits, less-casts, more-fits}
 use Rattle.calls.proofs.answers.signed.Statement.{statement}
 use Rattle.calls.proofs.answers.signed.Tie as tie
 

@@ -17,10 +17,13 @@ record Below (z : ℤ) : Type 0 where
   pub is : negsuc 0 -ℤ z ≡ pos rest
   pub few : rest < 2 ^ 63
 
+minus : (n : ℕ) → negsuc 0 -ℤ negsuc n ≡ pos n
+minus n = rw (le-ltb (suc n) 1 (omega arith)) (ap pos (omega arith))
+
 -- so of a negative number
 below : (z : ℤ) → SFits w64 z → ltZ z (pos 0) ≡ true → Below z
 below (pos n) f t = absurd (omega (arith, ltb-true n 0 t))
-below (negsuc n) f t = record { rest = n; is = rw (le-ltb (suc n) 1 (omega arith)) (ap pos (omega arith)); few = f .sfits }
+below (negsuc n) f t = record { rest = n; is = minus n; few = f .sfits }
 
 -- any other is its magnitude
 at-least : (z : ℤ) → SFits w64 z → ltZ z (pos 0) ≡ false → T (nonNeg z) × Fits w64 (natAbs z)
@@ -57,3 +60,9 @@ module _ (z : ℤ) (f : SFits w64 z) where
     -- one more fits
     pub more-fits : Fits w64 (natAbs (toZ w64 (ofZ w64 (negsuc 0 -ℤ toZ w64 (ofZ w64 z)))) + 1)
     more-fits = subst (λ (y : ℤ). Fits w64 (natAbs y + 1)) (sym same) (record { fits = omega (arith, k .few) })
+
+-- what is left below -1, as it is read back
+pub left-below : (n : ℕ) → SFits w64 (negsuc n) → natAbs (toZ w64 (ofZ w64 (negsuc 0 -ℤ toZ w64 (ofZ w64 (negsuc n))))) ≡ n
+left-below n f =
+    let r : SFits w64 (pos n) = record { sfits = f .sfits } in
+    ap (λ (y : ℤ). natAbs (toZ w64 (ofZ w64 (negsuc 0 -ℤ y)))) (toZ-ofZ f) ∙ ap (λ (y : ℤ). natAbs (toZ w64 (ofZ w64 y))) (minus n) ∙ ap natAbs (toZ-ofZ r)

@@ -1,0 +1,9 @@
+pub mod Search
+pub mod Turns
+pub mod LeafWalks
+pub mod FieldTurns
+pub mod Moves
+pub mod Picked
+pub mod Looked
+pub mod TableSlots
+pub mod Answered

@@ -1,0 +1,5 @@
+pub mod Search
+pub mod Walks
+pub mod Fields
+pub mod Counts
+pub mod Slots

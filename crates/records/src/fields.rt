@@ -1,0 +1,71 @@
+// The top-level fields of a table's schema, and the leaf that is looked for in one of them.
+use crate::kinds::kind;
+use crate::leaves::Seen;
+use crate::leaves::newer;
+use contents::walk::after_key;
+use format::limits::SCHEMA_LEVELS;
+use format::marks::OBJECT_END;
+use scan::bytes::stands;
+ghost use Rattle.records.specs.Fields.{FieldsRead, FieldsWithin};
+
+// The levels that are left for a field's kind.
+const KIND_LEVELS: usize = SCHEMA_LEVELS - 1;
+
+// What a walk over a whole schema gives: the byte after it, a record's width, the leaf that is looked for, and, where it was found,
+// its field's offset and width.
+pub struct Fields {
+    pub next: usize,
+    pub wide: usize,
+    pub seen: Seen,
+    pub field: usize,
+    pub span: usize,
+}
+
+// The fields of the schema that begins at `schema`, with so many leaves to be passed before the one that is looked for.
+pub fn fields_at(message: &[u8], schema: usize, leaf: usize) -> Fields
+    ensures is { λ r. ⌜ FieldsRead (now (message .entry)) schema leaf r ⌝ }
+    ensures bounds { λ r. ⌜ FieldsWithin (now (message .entry)) r ⌝ }
+{
+    let mut seen = Seen::Left(leaf);
+    let mut wide = 0;
+    let mut field = 0;
+    let mut span = 0;
+    let next = 0;
+    let off = Fields {
+        next,
+        wide,
+        seen,
+        field,
+        span,
+    };
+    let end = message.len();
+    if end <= schema {
+        return off;
+    }
+    let mut i = schema + 1;
+    while i < end {
+        let from = after_key(message, true, i);
+        let walk = kind(message, KIND_LEVELS, from, wide, seen);
+        let after = walk.next;
+        let beyond = walk.offset;
+        field = newer(seen, wide, field);
+        span = newer(seen, beyond - wide, span);
+        seen = walk.seen;
+        wide = beyond;
+        if stands(message, after, OBJECT_END) {
+            let next = after + 1;
+            return Fields {
+                next,
+                wide,
+                seen,
+                field,
+                span,
+            };
+        }
+        if after <= i {
+            return off;
+        }
+        i = after;
+    }
+    off
+}

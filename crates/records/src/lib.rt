@@ -1,0 +1,6 @@
+// The slot of a leaf and a record of a table, from the message only: the schema's bytes are walked once, so no row table is needed.
+pub mod counts;
+pub mod fields;
+pub mod kinds;
+pub mod leaves;
+pub mod slot;

@@ -1,0 +1,59 @@
+// The calls over a message: the panel's, with the message only, reading to rows, and rewriting.
+use crate::answers::Reading;
+use crate::answers::reading_of;
+ghost use mathlib.Core.Path.{_≡_};
+ghost use lib.ListN.{length};
+ghost use Rattle.format.specs.Rows.{rowsIn};
+ghost use Rattle.format.specs.Read.{readInto, rowsUsed, wordsAfter};
+ghost use Rattle.format.specs.HouseForm.{rewrite as rewriteOf, bytesWritten, outputAfter, rewriteWordsAfter};
+ghost use Rattle.format.specs.Panel.{numberAndPlace, rowsNeeded, panelSlot};
+ghost use Rattle.format.specs.Answers.{firstAndWidth};
+ghost use Rattle.panel.specs.Layout.{partsOf, numberAndPlaceParts, rowsParts, slotParts};
+ghost use Rattle.tanklefrost.specs.Answers.{readingFor};
+
+// The panel: number and place.
+#[no_mangle]
+pub extern "C" fn tanklefrost_number_and_place(message: &[u8]) -> u64
+    ensures { λ r. ⌜ partsOf r ≡ numberAndPlaceParts (numberAndPlace (now (message .entry))) ⌝ }
+{
+    panel::number_and_place(message)
+}
+
+// The panel: number and place, and the rows needed.
+#[no_mangle]
+pub extern "C" fn tanklefrost_rows_needed(message: &[u8]) -> u64
+    ensures { λ r. ⌜ partsOf r ≡ rowsParts (rowsNeeded (now (message .entry))) ⌝ }
+{
+    panel::rows_needed(message)
+}
+
+// The panel: a slot's first byte and width by table, leaf and record.
+#[no_mangle]
+pub extern "C" fn tanklefrost_slot(message: &[u8], table: usize, leaf: usize, number: usize) -> u64
+    ensures { λ r. ⌜ partsOf r ≡ slotParts (firstAndWidth (panelSlot (now (message .entry)) table leaf number)) ⌝ }
+{
+    panel::slot(message, table, leaf, number)
+}
+
+// Reads a message into lent rows. What isn't filled is zero, on refusal all.
+#[no_mangle]
+pub extern "C" fn tanklefrost_read(message: &[u8], rows: &mut [u32]) -> Reading
+    ensures answer { λ r. ⌜ r ≡ readingFor (rowsUsed (readInto (now (message .entry)) (now (rows .entry)))) ⌝ }
+    ensures words { λ _. ⌜ now (rows .exit) ≡ wordsAfter (length (now (rows .entry))) (readInto (now (message .entry)) (now (rows .entry))) ⌝ }
+{
+    reading_of(reader::message::read(message, rows))
+}
+
+// Rewrites a message to house form. The rows then hold the message's rows. What isn't filled of rows and output is zero, on refusal all.
+#[no_mangle]
+pub extern "C" fn tanklefrost_rewrite(
+    message: &[u8],
+    rows: &mut [u32],
+    output: &mut [u8],
+) -> Reading
+    ensures answer { λ r. ⌜ r ≡ readingFor (bytesWritten (rewriteOf (now (message .entry)) (rowsIn (now (rows .entry))) (length (now (output .entry))))) ⌝ }
+    ensures output { λ _. ⌜ now (output .exit) ≡ outputAfter (length (now (output .entry))) (rewriteOf (now (message .entry)) (rowsIn (now (rows .entry))) (length (now (output .entry)))) ⌝ }
+    ensures words { λ _. ⌜ now (rows .exit) ≡ rewriteWordsAfter (length (now (rows .entry))) (readInto (now (message .entry)) (now (rows .entry))) (rewriteOf (now (message .entry)) (rowsIn (now (rows .entry))) (length (now (output .entry)))) ⌝ }
+{
+    reading_of(rewriter::message::rewrite(message, rows, output))
+}

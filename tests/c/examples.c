@@ -1,0 +1,116 @@
+/* The checked examples of document 01. */
+#include "lent.h"
+#include "tanklefrost.h"
+
+static struct bytes m;
+static uint32_t rows[64 * TANKLEFROST_ROW_WORDS];
+
+static void message(const char *hex)
+{
+    m.size = 0;
+    put_hex(&m, hex);
+}
+
+/* Number and place, by the panel's calls and by reading with rows enough. */
+static int answers(const char *hex, uint32_t number, size_t place)
+{
+    uint64_t a;
+    struct tanklefrost_reading r;
+    message(hex);
+    a = tanklefrost_number_and_place(m.at, m.size);
+    r = tanklefrost_read(m.at, m.size, rows, sizeof rows / sizeof *rows);
+    return tanklefrost_answer_number(a) == number && tanklefrost_answer_place(a) == place && r.number == number && r.place == place;
+}
+
+/* The first rows are these. */
+static int has_rows(const uint32_t *expected, size_t count)
+{
+    uint64_t a = tanklefrost_rows_needed(m.at, m.size);
+    struct tanklefrost_reading r = tanklefrost_read(m.at, m.size, rows, sizeof rows / sizeof *rows);
+    return r.number == 0 && r.amount == count && tanklefrost_answer_number(a) == 0 && tanklefrost_answer_rows(a) == count
+        && memcmp(rows, expected, count * TANKLEFROST_ROW_WORDS * sizeof *rows) == 0;
+}
+
+/* The slot at (1,0) of the packed array, and its value. */
+static int at_one_zero(const char *hex, size_t first, uint64_t value)
+{
+    size_t indexes[2] = {1, 0};
+    struct tanklefrost_place p;
+    struct tanklefrost_scalar v;
+    if (!answers(hex, 0, 0)) {
+        return 0;
+    }
+    p = tanklefrost_packed_slot(rows, sizeof rows / sizeof *rows, (uint32_t)m.size, 0, indexes, 2);
+    v = tanklefrost_value_in_packed(m.at, m.size, rows, sizeof rows / sizeof *rows, 0, indexes, 2);
+    return p.number == 0 && p.first == first && p.width == 1 && v.number == 0 && v.kind == 7 && v.value_case == TANKLEFROST_UNSIGNED
+        && v.bits == value;
+}
+
+static int single_of(const char *hex, uint64_t bits)
+{
+    struct tanklefrost_scalar v;
+    if (!answers(hex, 0, 0)) {
+        return 0;
+    }
+    v = tanklefrost_value_at_row(m.at, m.size, rows, sizeof rows / sizeof *rows, 0);
+    return v.number == 0 && v.kind == 1 && v.value_case == TANKLEFROST_SINGLE && v.bits == bits;
+}
+
+int main(void)
+{
+    static const uint32_t null_row[] = {1, 90, 0, 1, 0, 0, 1, 0};
+    static const uint32_t table_rows[] = {
+        8, 91, 0, 15, 4, 2, 6, 0, 10, 123, 2, 0, 2, 2, 6, 0, 4, 83, 3, 5, 1, 0, 3, 0,
+        9, 85, 6, 0, 1, 0, 4, 0,  4, 83, 7, 9, 1, 0, 5, 0,   9, 84, 10, 1, 1, 0, 6, 0};
+    size_t one = 1;
+    struct tanklefrost_place p;
+    struct tanklefrost_scalar v;
+    struct tanklefrost_member n;
+    uint64_t slot;
+
+    CHECK(answers("-", 2, 0));
+    CHECK(answers("5A", 0, 0) && has_rows(null_row, 1));
+    CHECK(answers("4E4E", 2, 2));
+    CHECK(answers("5A5A", 9, 1));
+    CHECK(answers("5369FF", 6, 1));
+    CHECK(answers("4380", 4, 1));
+    CHECK(answers("5B24645D", 3, 3));
+    CHECK(answers("5B*33", 7, 32));
+    CHECK(answers("5B*32 5D*32", 0, 0));
+    CHECK(at_one_zero("5B2455235B690269035D010203040506", 13, 4));
+    CHECK(at_one_zero("5B2455235B5B690269035D5D010203040506", 13, 2));
+    CHECK(answers("5B247B55016155550162547D23550205540646", 0, 0) && has_rows(table_rows, 6));
+
+    /* record 1 of b, by rows and by columns; the leaf's name leads to its row */
+    slot = tanklefrost_slot(m.at, m.size, 0, 1, 1);
+    CHECK(tanklefrost_answer_number(slot) == 0 && tanklefrost_answer_first(slot) == 18 && tanklefrost_answer_width(slot) == 1);
+    n = tanklefrost_lookup(m.at, m.size, rows, sizeof rows / sizeof *rows, 1, (const uint8_t *)"b", 1);
+    CHECK(n.number == 0 && n.row == 5);
+    v = tanklefrost_value_in_table(m.at, m.size, rows, sizeof rows / sizeof *rows, 0, n.row, &one, 1);
+    CHECK(v.number == 0 && v.kind == 9 && v.value_case == TANKLEFROST_BOOLEAN && v.bits == 0);
+    CHECK(answers("7B247B55016155550162547D23550205065446", 0, 0));
+    p = tanklefrost_table_slot(rows, sizeof rows / sizeof *rows, (uint32_t)m.size, 0, 5, &one, 1);
+    CHECK(p.number == 0 && p.first == 18 && p.width == 1);
+    slot = tanklefrost_slot(m.at, m.size, 0, 1, 1);
+    CHECK(tanklefrost_answer_number(slot) == 0 && tanklefrost_answer_first(slot) == 18 && tanklefrost_answer_width(slot) == 1);
+    CHECK(tanklefrost_slot(m.at, m.size, 1, 0, 0) == TANKLEFROST_NOT_THERE);
+    CHECK(tanklefrost_slot(m.at, m.size, 0, 2, 0) == TANKLEFROST_NOT_THERE);
+    CHECK(tanklefrost_slot(m.at, m.size, 0, 0, 2) == TANKLEFROST_NOT_THERE);
+    CHECK(tanklefrost_slot(m.at, m.size - 1, 0, 0, 0) == TANKLEFROST_ENDS_TOO_EARLY);
+
+    /* half to single; signed numbers */
+    CHECK(single_of("68007E", 0x7FC00000));
+    CHECK(single_of("680100", 0x33800000));
+    CHECK(single_of("68003C", 0x3F800000) && tanklefrost_single(0x3F800000) == 1.0f);
+    CHECK(answers("6980", 0, 0));
+    v = tanklefrost_value_at_row(m.at, m.size, rows, sizeof rows / sizeof *rows, 0);
+    CHECK(v.number == 0 && v.value_case == TANKLEFROST_SIGNED && tanklefrost_signed(v.bits) == -128);
+    CHECK(answers("4C0000000000000080", 0, 0));
+    v = tanklefrost_value_at_row(m.at, m.size, rows, sizeof rows / sizeof *rows, 0);
+    CHECK(v.number == 0 && v.value_case == TANKLEFROST_SIGNED && tanklefrost_signed(v.bits) == INT64_MIN);
+    CHECK(answers("44000000000000F03F", 0, 0));
+    v = tanklefrost_value_at_row(m.at, m.size, rows, sizeof rows / sizeof *rows, 0);
+    CHECK(v.number == 0 && v.value_case == TANKLEFROST_DOUBLE && tanklefrost_double(v.bits) == 1.0);
+    free(m.at);
+    return report("examples");
+}
