@@ -11,7 +11,7 @@ use Rattle.format.specs.Conditions.{if_then_else_}
 use Rattle.format.specs.Outcome.{done, _>>=_, guard}
 use Rattle.format.specs.Limits.{limit}
 use Rattle.format.specs.Marks.{Opening, bracket, brace, closes, isInteger, 'S'}
-use Rattle.format.specs.Tokens.{Token, key as keyKind, isKind, Forest, none, alone, uncounted, size, _⊕_}
+use Rattle.format.specs.Tokens.{key as keyKind, isKind, Forest, none, alone, uncounted, size, _⊕_}
 use Rattle.format.specs.Records.{memberWidth, totalWidth}
 use Rattle.format.specs.Bytes.{byte, oneOf}
 use Rattle.format.specs.Integers.{number}

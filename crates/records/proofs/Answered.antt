@@ -1,17 +1,15 @@
 -- What the call answers is the slot of the definition: from the walk over the schema, and the count. Assumes nothing.
 use Prim.Native.Nat.{ℕ, _+_, _≤_, _<_}
 use mathlib.Core.Path.{_≡_, refl, sym, _∙_, ap}
-use mathlib.Core.Bool.{Bool, false}
+use mathlib.Core.Bool.{Bool}
 use mathlib.Core.List.{List}
 use native.Mathlib.Omega.{arith}
 use lib.ListN.{length}
-use Rattle.format.specs.Outcome.{Outcome, fault, done, _>>=_}
+use Rattle.format.specs.Outcome.{fault, done, _>>=_}
 use Rattle.format.specs.Limits.{limit}
 use Rattle.format.specs.Refusals.{notThere}
 use Rattle.format.specs.Marks.{openingOf, brace}
 use Rattle.format.specs.Tokens.{Token, Forest, none, node, size, belowFirst}
-use Rattle.format.specs.Records.{totalWidth}
-use Rattle.format.specs.Dimensions.{shape}
 use Rattle.format.specs.Schemas.{tableSchema}
 use Rattle.format.specs.Containers.{table}
 use Rattle.format.specs.Answers.{firstAndWidth}
@@ -19,7 +17,7 @@ use Rattle.format.specs.Panel.{tables, pick, readWhole, panelSlot}
 use Rattle.laws.proofs.Holds.{of-done}
 use Rattle.laws.proofs.Bounds.{schema-bounded}
 use Rattle.contents.proofs.Groups.{opened-there}
-use Rattle.records.specs.Search.{Spot, spotOf, inFields}
+use Rattle.records.specs.Search.{spotOf, inFields}
 use Rattle.records.specs.Fields.{FieldsOver, FieldsRead}
 use Rattle.records.specs.Counts.{CountOver, CountRead}
 use Rattle.records.specs.Slots.{tableOf, slotOf, leafPlace}

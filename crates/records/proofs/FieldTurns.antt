@@ -1,6 +1,6 @@
 -- The top-level fields of a schema, walked one after another. Assumes nothing.
 use Prim.Native.Nat.{ℕ, _+_, _-_, _≤_, _<_}
-use mathlib.Core.Path.{_≡_, refl, sym, _∙_, ap, subst}
+use mathlib.Core.Path.{_≡_, refl, sym, _∙_, ap}
 use mathlib.Core.Bool.{true}
 use mathlib.Core.List.{List}
 use native.Mathlib.Omega.{arith}
@@ -17,7 +17,7 @@ use Rattle.laws.proofs.Holds.{of-done}
 use Rattle.contents.specs.Items.{Unkeyed, bare, named}
 use Rattle.contents.proofs.Members.{alike}
 use Rattle.contents.proofs.Groups.{kindOf, Opened, Afters, opened, group-wide, group-below}
-use Rattle.contents.proofs.Verdicts.{Single, kind-single}
+use Rattle.contents.proofs.Verdicts.{kind-single}
 use Rattle.records.specs.Search.{past, latest, Spot, spotOf, inFields}
 use Rattle.records.specs.Walks.{Walks}
 use Rattle.records.specs.declared.leaves.Seen.{Seen}

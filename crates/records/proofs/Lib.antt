@@ -4,6 +4,5 @@ pub mod LeafWalks
 pub mod FieldTurns
 pub mod Moves
 pub mod Picked
-pub mod Looked
 pub mod TableSlots
 pub mod Answered

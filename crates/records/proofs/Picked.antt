@@ -1,6 +1,6 @@
 -- The search over a schema's members, with their offsets or without, finds the leaf that stands there in schema order. Assumes nothing.
-use Prim.Native.Nat.{ℕ, zero, suc, _+_, _≤_}
-use mathlib.Core.Path.{_≡_, refl, sym, _∙_, ap, subst}
+use Prim.Native.Nat.{ℕ, zero, suc, _+_}
+use mathlib.Core.Path.{_≡_, refl, sym, _∙_, ap}
 use mathlib.Core.Bool.{Bool, true, false}
 use mathlib.Core.List.{List, [], _∷_, _++_, map, append-nil, List·Memᴰ, List·Memᴰ·head, List·Memᴰ·tail}
 use native.Mathlib.Omega.{arith}
@@ -14,7 +14,7 @@ use Rattle.format.specs.Panel.{pick}
 use Rattle.storage.specs.Places.{Field, own, next}
 use Rattle.storage.proofs.Offsets.{Placed}
 use Rattle.storage.proofs.Leaves.{of-leaves, alone, rest, holds-leaf}
-use Rattle.records.specs.Search.{passed, latest, past, Spot, spotOf, inFields}
+use Rattle.records.specs.Search.{passed, latest, past, Spot, inFields}
 use Rattle.records.specs.declared.leaves.Seen.{Seen}
 use Rattle.records.specs.declared.leaves.Seen.the-variants.{Left, Found}
 

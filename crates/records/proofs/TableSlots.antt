@@ -1,18 +1,17 @@
 -- A table that was read: its schema, its count, and the slots that its leaves and records have. Assumes nothing.
-use Prim.Native.Nat.{ℕ, _+_, _*_, _≤_, _<_}
+use Prim.Native.Nat.{ℕ, _+_, _≤_, _<_}
 use mathlib.Core.Path.{_≡_, refl, sym, _∙_, ap, subst}
 use mathlib.Core.Bool.{false}
 use mathlib.Core.List.{List, map}
 use native.Mathlib.Omega.{arith}
 use lib.Dec.{leb, eqb}
 use borrow.Author.Tests.{leb-true}
-use Rattle.format.specs.Conditions.{if_then_else_}
 use Rattle.format.specs.Outcome.{Outcome, fault, done, _>>=_, guard}
 use Rattle.format.specs.Limits.{limit, recordLimit}
 use Rattle.format.specs.Refusals.{notThere}
 use Rattle.format.specs.Marks.{Opening, bracket, brace, opens, '#'}
-use Rattle.format.specs.Tokens.{Token, table as tableKind, isKind, Forest, none, node, size, _⊕_, belowFirst}
-use Rattle.format.specs.Records.{totalWidth, atOffset, placed}
+use Rattle.format.specs.Tokens.{Token, table as tableKind, Forest, none, node, size, _⊕_, belowFirst}
+use Rattle.format.specs.Records.{totalWidth, placed}
 use Rattle.format.specs.Indexes.{below}
 use Rattle.format.specs.Storage.{Slot, memberRow, leaves, records, slotsOf}
 use Rattle.format.specs.Bytes.{oneOf, reach}
@@ -24,18 +23,17 @@ use Rattle.format.specs.Panel.{leafRows, pick, slotFor}
 use Rattle.format.specs.Answers.{firstAndWidth}
 use Rattle.laws.proofs.Holds.{of-done, guard-law}
 use Rattle.laws.proofs.Order.{OfSchema, group-kind}
-use Rattle.laws.proofs.Schemas.{Group, grouped, Members, tableSchema-gives}
+use Rattle.laws.proofs.Schemas.{Group, grouped, tableSchema-gives}
 use Rattle.laws.proofs.Slots.{member-width}
 use Rattle.contents.proofs.Inverse.{never, done-pair, bind-done, then-done}
 use Rattle.storage.proofs.Offsets.{Placed, member-placed, width-placed, offsets-placed}
 use Rattle.storage.proofs.Leaves.{field-from}
 use Rattle.storage.proofs.Cuts.{formulaOf}
-use Rattle.storage.proofs.Storage.{layout-is}
+use Rattle.panel_laws.proofs.Looked.{table-slots, slot-there, slot-over}
 use Rattle.records.specs.Search.{Spot, inFields}
 use Rattle.records.specs.Slots.{tableOf, slotOf, leafPlace}
 use Rattle.records.specs.declared.leaves.Seen.the-variants.{Left}
 use Rattle.records.proofs.Picked.{fields-placed, Picked, there, missing, picked}
-use Rattle.records.proofs.Looked.{slot-there, slot-over}
 
 -- ---- what was read
 
@@ -89,11 +87,6 @@ table-read m lent o at row next token under e =
 
 -- ---- its slots
 
-table-slots : (row : ℕ) (t : Token) (under f : Forest) (o : Opening) (n : ℕ) → t .kind ≡ tableKind → t .mark ≡ opens o → t .count ≡ n → belowFirst under ≡ f
-    → slotsOf row t under (below (t .count)) ≡ records o (memberRow row) f (below n)
-unfolding slotsOf isKind if_then_else_
-table-slots row t under f o n k m c b = rw (k, m, c, b, layout-is o)
-
 module _ {m : List ℕ} {lent : ℕ} {o : Opening} {at row : ℕ} {token : Token} {under : Forest} (x : TableRead m lent o at row token under) where
   -- the members of its schema, at their offsets
   record Fielded : Type 0 where
@@ -123,7 +116,7 @@ module _ {m : List ℕ} {lent : ℕ} {o : Opening} {at row : ℕ} {token : Token
   rows-are = rw (fields .is)
 
   slots-are : slotsOf row token under (below (token .count)) ≡ records o (memberRow row) (fields .fielded) (below (x .count .many))
-  slots-are = table-slots row token under (fields .fielded) o (x .count .many) (x .kind-is) (x .mark-is) (x .count-is) (fields .is)
+  slots-are = ap (λ (n : ℕ). slotsOf row token under (below n)) (x .count-is) ∙ table-slots row token under (fields .fielded) o (below (x .count .many)) (x .kind-is) (x .mark-is) (fields .is)
 
   -- a leaf and a record that are there, one that isn't
   of-slot : (leaf number leafRow : ℕ) (s : Slot ℕ) → pick (leafRows (tableOf row token under)) leaf ≡ done leafRow

@@ -6,6 +6,8 @@ use contents::walk::after_key;
 use format::limits::SCHEMA_LEVELS;
 use format::marks::OBJECT_END;
 use scan::bytes::stands;
+ghost use mathlib.Core.List.{List};
+ghost use Prim.Native.Nat.{ℕ};
 ghost use Rattle.records.specs.Fields.{FieldsRead, FieldsWithin};
 
 // The levels that are left for a field's kind.
@@ -21,23 +23,29 @@ pub struct Fields {
     pub span: usize,
 }
 
+// What is given where no schema can be read.
+fn unread(leaf: usize) -> Fields
+    ensures { λ r. ⌜ ((m : List ℕ) → FieldsWithin m r) ⌝ }
+{
+    Fields {
+        next: 0,
+        wide: 0,
+        seen: Seen::Left(leaf),
+        field: 0,
+        span: 0,
+    }
+}
+
 // The fields of the schema that begins at `schema`, with so many leaves to be passed before the one that is looked for.
 pub fn fields_at(message: &[u8], schema: usize, leaf: usize) -> Fields
     ensures is { λ r. ⌜ FieldsRead (now (message .entry)) schema leaf r ⌝ }
     ensures bounds { λ r. ⌜ FieldsWithin (now (message .entry)) r ⌝ }
 {
+    let off = unread(leaf);
     let mut seen = Seen::Left(leaf);
     let mut wide = 0;
     let mut field = 0;
     let mut span = 0;
-    let next = 0;
-    let off = Fields {
-        next,
-        wide,
-        seen,
-        field,
-        span,
-    };
     let end = message.len();
     if end <= schema {
         return off;

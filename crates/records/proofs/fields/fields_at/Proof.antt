@@ -1,5 +1,5 @@
 -- `fields_at`: a walk over each field, and what is found in it. Assumes nothing.
-use Prim.Native.Nat.{ℕ, _+_, _-_, _≤_}
+use Prim.Native.Nat.{ℕ, _-_, _≤_}
 use mathlib.Core.Path.{_≡_, sym, _∙_}
 use mathlib.Core.Bool.{true}
 use native.Mathlib.Omega.{arith}
@@ -22,15 +22,15 @@ use Rattle.records.proofs.fields.fields_at.Statement.{statement}
 use Rattle.records.proofs.fields.fields_at.Tie as tie
 
 abbrev Inv-loop : tie.InvT-loop
-Inv-loop message schema leaf seen₀ wide₀ field₀ span₀ next off end i₀ seen wide field span i =
+Inv-loop message schema leaf off seen₀ wide₀ field₀ span₀ end i₀ seen wide field span i =
     Begins wide seen × (field ≤ recordLimit) × (span ≤ recordLimit) × ((lent row next : ℕ) (s : Forest) → tableSchema message lent schema row ≡ done (s, next) → totalWidth s ≤ recordLimit
     → Rest message lent 7 brace i (Leads wide seen field span (totalWidth s) (inFields (belowFirst s) 0 (Left leaf) 0 0)) next)
 
 abbrev μ-loop : tie.MeasureT-loop
-μ-loop message schema leaf seen₀ wide₀ field₀ span₀ next off end i₀ seen wide field span i = length message - i
+μ-loop message schema leaf off seen₀ wide₀ field₀ span₀ end i₀ seen wide field span i = length message - i
 
 returns : tie.Need-returns Inv-loop μ-loop
-returns c = ((λ lent row next s e narrow. let h = opened-there (fields-opened e) in absurd (omega arith)), record { inside = omega arith; wide = omega arith; near = tt; field = omega arith; span = omega arith })
+returns c = ((λ lent row next s e narrow. let h = opened-there (fields-opened e) in absurd (omega arith)), c .before .unread .ensures _)
 
 loop-holds : tie.Need-loop-holds Inv-loop μ-loop
 loop-holds c = (record { within = omega arith; near = tt }, omega arith, omega arith, (λ lent row next s e narrow. fields-start _ (fields-opened e)))
@@ -43,7 +43,7 @@ sub-newer c = let k = c .before .kind .ensures .1 .on in omega arith
 
 add-next : tie.Need-add-next Inv-loop μ-loop
 unfolding closes
-add-next c = let h = stands-there (c .before .before .before .before .before .before .before .before .before .before .args .message .now) (c .before .before .before .before .kind .result .next) (closes brace) (sym (c .before .stands .ensures) ∙ c .if2 .taken) .0 in omega arith
+add-next c = let h = stands-there (c .before .before .before .before .before .before .before .before .before .before .before .args .message .now) (c .before .before .before .before .kind .result .next) (closes brace) (sym (c .before .stands .ensures) ∙ c .if2 .taken) .0 in omega arith
 
 -- a field's offset and width are within the record's limit
 returns-2 : tie.Need-returns-2 Inv-loop μ-loop
@@ -51,10 +51,10 @@ unfolding closes
 returns-2 c = (
   (λ lent row next s e narrow.
       let r = c .before .before .before .before .before .before .before .loop .inv .3 lent row next s e narrow in
-      let d = fields-closed r narrow (c .before .before .before .before .before .after-key .result) (c .before .before .before .before .before .after-key .ensures) (c .before .before .before .before .kind .result) (c .before .before .before .before .kind .ensures .0) (stands-there (c .before .before .before .before .before .before .before .before .before .before .args .message .now) (c .before .before .before .before .kind .result .next) (closes brace) (sym (c .before .stands .ensures) ∙ c .if2 .taken) .1) in
+      let d = fields-closed r narrow (c .before .before .before .before .before .after-key .result) (c .before .before .before .before .before .after-key .ensures) (c .before .before .before .before .kind .result) (c .before .before .before .before .kind .ensures .0) (stands-there (c .before .before .before .before .before .before .before .before .before .before .before .args .message .now) (c .before .before .before .before .kind .result .next) (closes brace) (sym (c .before .stands .ensures) ∙ c .if2 .taken) .1) in
       record { ended = sym (d .0); total = d .1 .0; spot = rw (c .before .before .before .newer .ensures, c .before .before .newer2 .ensures) (d .1 .1) }),
   (let k = c .before .before .before .before .kind .ensures .1 in
-      let h = stands-there (c .before .before .before .before .before .before .before .before .before .before .args .message .now) (c .before .before .before .before .kind .result .next) (closes brace) (sym (c .before .stands .ensures) ∙ c .if2 .taken) .0 in
+      let h = stands-there (c .before .before .before .before .before .before .before .before .before .before .before .args .message .now) (c .before .before .before .before .kind .result .next) (closes brace) (sym (c .before .stands .ensures) ∙ c .if2 .taken) .0 in
       let v = c .before .before .before .before .before .before .before .loop .inv in
       record {
         inside = omega arith;
@@ -70,7 +70,7 @@ returns-3 c = (
   (λ lent row next s e narrow.
       let r = c .before .before .before .before .before .before .before .before .loop .inv .3 lent row next s e narrow in
       let d = fields-on r narrow (c .before .before .before .before .before .before .after-key .result) (c .before .before .before .before .before .before .after-key .ensures) (c .before .before .before .before .before .kind .result) (c .before .before .before .before .before .kind .ensures .0) in absurd (omega arith)),
-  record { inside = omega arith; wide = omega arith; near = tt; field = omega arith; span = omega arith },
+  c .before .before .before .before .before .before .before .before .before .before .unread .ensures _,
 )
 
 loop-again : tie.Need-loop-again Inv-loop μ-loop
@@ -83,7 +83,7 @@ loop-again c =
       rw (c .before .before .before .newer2 .ensures) (span-within (c .before .before .before .before .before .before .before .before .loop .seen) _ (c .before .before .before .before .before .before .before .before .loop .wide) _ _ (k .within) (v .2)),
       (λ lent row next s e narrow.
           let r = v .3 lent row next s e narrow in
-          rw (c .before .before .before .before .newer .ensures, c .before .before .before .newer2 .ensures) (fields-next r narrow (c .before .before .before .before .before .before .after-key .result) (c .before .before .before .before .before .before .after-key .ensures) (c .before .before .before .before .before .kind .result) (c .before .before .before .before .before .kind .ensures .0) (stands-other (c .before .before .before .before .before .before .before .before .before .before .before .args .message .now) (c .before .before .before .before .before .kind .result .next) (closes brace) (sym (c .before .before .stands .ensures) ∙ c .before .if2 .left)))),
+          rw (c .before .before .before .before .newer .ensures, c .before .before .before .newer2 .ensures) (fields-next r narrow (c .before .before .before .before .before .before .after-key .result) (c .before .before .before .before .before .before .after-key .ensures) (c .before .before .before .before .before .kind .result) (c .before .before .before .before .before .kind .ensures .0) (stands-other (c .before .before .before .before .before .before .before .before .before .before .before .before .args .message .now) (c .before .before .before .before .before .kind .result .next) (closes brace) (sym (c .before .before .stands .ensures) ∙ c .before .if2 .left)))),
     )
 
 returns-4 : tie.Need-returns-4 Inv-loop μ-loop
@@ -91,7 +91,7 @@ returns-4 c = (
   (λ lent row next s e narrow.
       let r = c .before .loop .inv .3 lent row next s e narrow in
       let h = inside _ _ _ true r in absurd (omega arith)),
-  record { inside = omega arith; wide = omega arith; near = tt; field = omega arith; span = omega arith },
+  c .before .before .before .unread .ensures _,
 )
 
 pub fields-at-spec : {M : Type 1} → statement M
@@ -100,6 +100,7 @@ fields-at-spec =
     (tie.spec
     Inv-loop
     μ-loop
+    (λ c κs. search needs)
     returns
     (λ c. omega arith)
     loop-holds

@@ -1,5 +1,4 @@
 -- `slot_in`: the walk over the schema, the count, and the formula. Assumes nothing.
-use mathlib.Core.Path.{sym, _∙_}
 use native.Mathlib.Omega.{arith}
 use borrow.Author.Needs.{needs}
 use Rattle.records.proofs.Answered.{table-inside, answer-missing, answer-past, answer-found}

@@ -6,21 +6,22 @@ use mathlib.Core.List.{List, [], _∷_, List·Memᴰ, List·Memᴰ·head, List·
 use mathlib.Core.Logic.{inl, inr}
 use native.Mathlib.Omega.{arith}
 use lib.Dec.{eqb}
-use borrow.Author.Tests.{eqb-true, eq-eqb, eqb-false}
+use borrow.Author.Tests.{eqb-true, eqb-false}
 use Rattle.format.specs.Conditions.{if_then_else_}
 use Rattle.format.specs.Outcome.{Outcome, fault, done}
 use Rattle.format.specs.Refusals.{notThere}
-use Rattle.format.specs.Marks.{Opening}
-use Rattle.format.specs.Tokens.{Token, leaf as leafKind, Forest}
+use Rattle.format.specs.Marks.{Opening, opens}
+use Rattle.format.specs.Tokens.{Token, table as tableKind, leaf as leafKind, isKind, Forest, belowFirst}
 use Rattle.format.specs.Records.{totalWidth}
 use Rattle.format.specs.Indexes.{below}
-use Rattle.format.specs.Storage.{Slot, records}
+use Rattle.format.specs.Storage.{Slot, memberRow, records, slotsOf}
 use Rattle.format.specs.Panel.{slotFor}
 use Rattle.storage.specs.Places.{Field}
 use Rattle.storage.proofs.Places.{field-same}
 use Rattle.storage.proofs.Numbering.{in-below, of-below, numbered-below}
 use Rattle.storage.proofs.Offsets.{Placed}
 use Rattle.storage.proofs.Leaves.{leafSlot}
+use Rattle.storage.proofs.Storage.{layout-is}
 use Rattle.storage.proofs.Cuts.{formulaOf, in-records, of-records}
 
 -- ---- in any list
@@ -47,6 +48,11 @@ looked leafRow r (s ∷ l) = go (eqb (s .leafRow) leafRow) (eqb (s .element) r) 
     go false b e q k = later (λ c _. eqb-false _ _ e c) k
 
 -- ---- in the slots of a table
+
+pub table-slots : {A : Type 0} (row : ℕ) (t : Token) (under f : Forest) (o : Opening) (l : List A) → t .kind ≡ tableKind → t .mark ≡ opens o → belowFirst under ≡ f
+    → slotsOf row t under l ≡ records o (memberRow row) f l
+unfolding slotsOf isKind if_then_else_
+table-slots row t under f o l k m b = rw (k, m, b, layout-is o)
 
 module _ (o : Opening) (n many r : ℕ) {f : Forest} (p : Placed 0 f) where
   -- a leaf's, in its field and a record

@@ -1,0 +1,3 @@
+pub mod Picks
+pub mod Looked
+pub mod Addressed
