@@ -11,7 +11,8 @@ enum { EXTRA = 1 << 20 };
 #else
 enum { EXTRA = 0 };
 #endif
-enum { STACK = 64 * 1024, LEVELS = 32, SCHEMA_LEVELS = 8 };
+/* The promise is 64 KiB; about 10 KiB are measured, and a test fails that finds much more. */
+enum { STACK = 64 * 1024, EXPECTED = 16 * 1024, LEVELS = 32, SCHEMA_LEVELS = 8 };
 
 static struct bytes m;
 static uint32_t rows[256 * TANKLEFROST_ROW_WORDS];
@@ -125,7 +126,7 @@ int main(void)
     put("7B235501550161", LEVELS - 1);
     put_table();
     deepest("counted objects");
-    CHECK(EXTRA != 0 || most < STACK);
+    CHECK(most < EXPECTED);
     memset(stack, GUARD, room);
     take_back(memory);
     free(m.at);
