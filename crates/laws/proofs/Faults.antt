@@ -2,16 +2,16 @@
 use Prim.Native.Nat.{ℕ, zero, suc, _+_, _≤_, _<_}
 use mathlib.Core.Path.{_≡_, refl}
 use mathlib.Core.Bool.{Bool, true, false}
-use mathlib.Core.List.{List, []}
+use mathlib.Core.List.{List}
 use native.Mathlib.Omega.{arith}
 use native.Mathlib.Nat.{mul-le-mul-left}
 use lib.ListN.{length}
 use borrow.Author.Tests.{ltb-true, leb-true}
 use Rattle.format.specs.Conditions.{if_then_else_}
-use Rattle.format.specs.Outcome.{Outcome, fault, done, Parsed, _>>=_, _>>_, guard}
+use Rattle.format.specs.Outcome.{Outcome, fault, done, _>>=_, _>>_, guard}
 use Rattle.format.specs.Limits.{limit}
 use Rattle.format.specs.Refusals.{notBuilt}
-use Rattle.format.specs.Marks.{Opening, bracket, brace, width}
+use Rattle.format.specs.Marks.{Opening, bracket, brace}
 use Rattle.format.specs.Tokens.{Kind, Forest}
 use Rattle.format.specs.Indexes.{below}
 use Rattle.format.specs.Storage.{Slot, memberRow}

@@ -2,7 +2,7 @@
 use Prim.Native.Nat.{ℕ, _+_, _*_, _/_, _%_, _^_, _<_}
 use mathlib.Core.Path.{_≡_}
 use native.Mathlib.Omega.{arith}
-use Rattle.panel.specs.Layout.{Parts, partsOf}
+use Rattle.panel.specs.Layout.{partsOf}
 
 pub parts-laid : (n p a : ℕ) → n < 2 ^ 8 → p < 2 ^ 24 → partsOf (n + p * 256 + a * 4294967296) ≡ record { number = n; place = p; amount = a }
 unfolding partsOf

@@ -27,7 +27,8 @@ use Rattle.laws.proofs.Slots.{Inside, nil, slot, records-inside, length-count, 
 use Rattle.storage.proofs.Stored.{IsTable, Stored, packedArray, recordTable}
 use Rattle.storage.proofs.Storage.{layout-is}
 use Rattle.storage.proofs.MessageSlots.{payload-in-message, is-stored}
-use Rattle.seek.proofs.Standing.{picked-stands}
+use Rattle.panel_laws.proofs.Picks.{table-picked}
+use Rattle.panel_laws.proofs.Looked.{Looked, found, nowhere, looked}
 use Rattle.seek.specs.Tables.{Found}
 use Rattle.records.specs.Slots.{tableOf, slotOf}
 use Rattle.panel.specs.Layout.{slotParts}
@@ -77,13 +78,11 @@ pick-refuses (a ∷ l) zero n p e = let z : _≡_ {A = ℕ} 0 1 = cc in absurd (
 pick-refuses (a ∷ l) (suc i) n p e = pick-refuses l i n p e
 
 slotFor-refuses : (leafRow number n p : ℕ) (ss : List (Slot ℕ)) → slotFor leafRow number ss ≡ fault n p → n ≡ notThere
-unfolding slotFor if_then_else_
-slotFor-refuses leafRow number n p [] e = cc
-slotFor-refuses leafRow number n p (x ∷ ss) e = go (eqb (x .leafRow) leafRow && eqb (x .element) number) (slotFor-refuses leafRow number n p ss) e
+slotFor-refuses leafRow number n p ss e = go (looked leafRow number ss) e
   where
-    go : (b : Bool) → (slotFor leafRow number ss ≡ fault n p → n ≡ notThere) → (if b then done x else slotFor leafRow number ss) ≡ fault n p → n ≡ notThere
-    go true k q = let z : _≡_ {A = ℕ} 0 1 = cc in absurd (omega arith)
-    go false k q = k q
+    go : {o : Outcome (Slot ℕ)} → Looked leafRow number ss o → o ≡ fault n p → n ≡ notThere
+    go (found m q r) e = let z : _≡_ {A = ℕ} 0 1 = cc in absurd (omega arith)
+    go (nowhere c) e = cc
 
 module _ (t : Table) (leaf number : ℕ) where
   -- its slots, and where one stands in the message
@@ -156,8 +155,8 @@ module _ (m : List ℕ) (table leaf number : ℕ) where
       unfolding slotParts
       found-leaf first wide e =
           let a = answered t leaf number first wide e in
-          let s = picked-stands 0 f table t picked in
-          let h = slot-fits m f accepted (t .row) (t .token) (t .under) (s .at) (s .kind) (a .leafRow) number (a .slot) (a .taken) in
+          let s = table-picked f table t picked in
+          let h = slot-fits m f accepted (t .row) (t .token) (t .under) (s .found) (s .is-table) (a .leafRow) number (a .slot) (a .taken) in
           (omega (arith, a .starts), omega (arith, a .is-wide), rw (slot-of, ← e))
 
     -- What is answered of the table that is read at a place is answered of the table that is found there.

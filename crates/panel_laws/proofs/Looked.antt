@@ -27,11 +27,11 @@ use Rattle.storage.proofs.Cuts.{formulaOf, in-records, of-records}
 -- ---- in any list
 
 -- a slot of the leaf and the record, or none
-data Looked (leafRow r : ℕ) (l : List (Slot ℕ)) : Outcome (Slot ℕ) → Type 0 where
+pub data Looked (leafRow r : ℕ) (l : List (Slot ℕ)) : Outcome (Slot ℕ) → Type 0 where
   found : {s : Slot ℕ} → List·Memᴰ s l → s .leafRow ≡ leafRow → s .element ≡ r → Looked leafRow r l (done s)
   nowhere : ((s : Slot ℕ) → List·Memᴰ s l → s .leafRow ≡ leafRow → s .element ≡ r → ⊥) → Looked leafRow r l (fault notThere 0)
 
-looked : (leafRow r : ℕ) (l : List (Slot ℕ)) → Looked leafRow r l (slotFor leafRow r l)
+pub looked : (leafRow r : ℕ) (l : List (Slot ℕ)) → Looked leafRow r l (slotFor leafRow r l)
 unfolding slotFor if_then_else_
 looked leafRow r [] = nowhere λ s m. absurd (List·Memᴰ·not-nil m)
 looked leafRow r (s ∷ l) = go (eqb (s .leafRow) leafRow) (eqb (s .element) r) refl refl (looked leafRow r l)

@@ -6,7 +6,6 @@ use format::answers::Value;
 use format::answers::Valued;
 ghost use mathlib.Core.Path.{_≡_};
 ghost use mathlib.Core.Bool.{true};
-ghost use lib.IntN.{ℤ};
 ghost use Rattle.format.specs.Answers.{answered, located, found, valued, valueOf, nanApart};
 ghost use Rattle.format.specs.Values.{signed as signedValue};
 ghost use Rattle.values.specs.Answers.{NansApart};
