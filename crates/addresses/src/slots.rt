@@ -5,6 +5,7 @@ use crate::indexes::number;
 use crate::sums::plus;
 use crate::sums::times;
 use format::answers::Found;
+use format::limits::DIMENSION_LIMIT;
 use format::marks::ARRAY;
 use format::marks::Mark;
 use rows::count;
@@ -65,7 +66,7 @@ fn positioned(rows: &[u32], container: usize, from: usize, indexes: &[usize]) ->
     requires { ⌜ (container < rowsIn (now rows)) × (rowAt (now rows) container .link ≤ rowsIn (now rows)) ⌝ }
     ensures { λ r. ⌜ Positions (now (rows .entry)) container from (now (indexes .entry)) r ⌝ }
 {
-    let mut into = [0u32; 8];
+    let mut into = [0u32; DIMENSION_LIMIT];
     match extents(rows, container, from, &mut into) {
         Gathered::Refused(number) => Position::Refused(number),
         Gathered::Many(many) => {

@@ -6,5 +6,11 @@ pub const LIMIT: u32 = 1_048_576;
 // Of a record's bytes.
 pub const RECORD_LIMIT: usize = 65_536;
 
+// Of a vector's dimensions.
+pub const DIMENSION_LIMIT: usize = 8;
+
+// Of the nesting of values, the outermost container being 1.
+pub const VALUE_LEVELS: usize = 32;
+
 // Of a schema's nesting, the outer schema being 1.
 pub const SCHEMA_LEVELS: usize = 8;

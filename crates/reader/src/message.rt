@@ -2,6 +2,7 @@
 use crate::values::member;
 use format::answers::Answer;
 use format::limits::LIMIT;
+use format::limits::VALUE_LEVELS;
 use rows::clear;
 use rows::count;
 use scan::noops::skip;
@@ -13,9 +14,6 @@ ghost use Rattle.format.specs.Panel.{rowsNeeded};
 ghost use Rattle.format.specs.Answers.{answered};
 ghost use Rattle.reader.specs.Message.{WholeMeets, WholeWithin};
 
-// How deep values may nest.
-const LEVELS: usize = 32;
-
 // The message, with so many rows lent, of which those are stored that the table has.
 fn read_core(message: &[u8], rows: &mut [u32], lent: usize) -> Step
     ensures meets { λ r. ⌜ WholeMeets r (readOf (now (message .entry)) lent) (now (rows .entry)) (now (rows .exit)) ⌝ }
@@ -26,7 +24,7 @@ fn read_core(message: &[u8], rows: &mut [u32], lent: usize) -> Step
         return Step::Fault(1, 0);
     }
     let at = skip(message, 0);
-    match member(message, rows, lent, LEVELS, false, at, 0) {
+    match member(message, rows, lent, VALUE_LEVELS, false, at, 0) {
         Step::Fault(n, p) => Step::Fault(n, p),
         Step::Next(next, row) => {
             let after = skip(message, next);

@@ -130,9 +130,9 @@ module _ (ws : List ℕ) (row link : ℕ) (r : Row) where
   unfolding isSingle among
   table-below k e = rw (eqb-true k (kindNumber table) e)
 
-  pub token-table : (h : HeldToken ws row link r) → eqb (r .kind) (kindNumber table) ≡ true → (split : ℕ) → split ≡ word ws (row + 1) 6
+  pub token-table : (h : HeldToken ws row link r) → eqb (r .kind) (kindNumber table) ≡ true → (split : ℕ) → split ≡ rowAt ws (row + 1) .link
       → Outer ws row split link r (h .token) (h .below)
-  unfolding rowOf rowAt size
+  unfolding rowOf size
   token-table h f split p = go (h .token) (h .below) (h .formed) (h .row-is) (h .rowed) (h .ends)
     where
       go : (t : Token) (below : Forest) → Formed (node t below none) → r ≡ rowOf t link → Rowed ws row (node t below none) → link ≡ suc row + size below → Outer ws row split link r t below

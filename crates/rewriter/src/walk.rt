@@ -1,7 +1,7 @@
 // The walk over the rows of a message: tokens side by side are a loop, those below a token a call.
 use rows::Row;
+use rows::link as link_of;
 use rows::load;
-use rows::word;
 use writer::by_row::put_head;
 use writer::by_row::put_middle;
 use writer::by_row::put_single;
@@ -17,9 +17,6 @@ ghost use Rattle.format.specs.HouseForm.{token as tokenIn, written, house};
 ghost use Rattle.rows.specs.Row.{rowOf};
 ghost use Rattle.writer.specs.Puts.{Puts};
 ghost use Rattle.rewriter.specs.Held.{Held, HeldToken, Room, most};
-
-// The word of a row that has its link.
-const LINK: usize = 6;
 
 // The table of row r, whose rows end at `link`: its schema, and then its dimensions.
 fn put_table(
@@ -37,7 +34,7 @@ fn put_table(
     ensures bounds { λ s. ⌜ s ≤ at + most * (link - row) ⌝ }
 {
     let below = row + 1;
-    let split = word(rows, below, LINK);
+    let split = link_of(rows, below);
     let start = put_head(output, at, r);
     let schema = put_tokens(message, rows, output, start, below, split);
     let middle = put_middle(output, schema, r);

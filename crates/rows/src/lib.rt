@@ -39,6 +39,13 @@ pub fn word(rows: &[u32], row: usize, k: usize) -> usize
     rows[at + k] as usize
 }
 
+// The link of a row; 0 past the table's end.
+pub fn link(rows: &[u32], row: usize) -> usize
+    ensures { λ r. ⌜ r ≡ rowAt (now (rows .entry)) row .link ⌝ }
+{
+    word(rows, row, 6)
+}
+
 // No row: every word is 0.
 const NO_ROW: Row = Row {
     kind: 0,

@@ -3,6 +3,7 @@
 use crate::nest::member;
 use crate::steps::Sought;
 use format::limits::LIMIT;
+use format::limits::VALUE_LEVELS;
 use scan::noops::skip;
 ghost use mathlib.Core.Path.{_≡_};
 ghost use Rattle.format.specs.Outcome.{done};
@@ -12,9 +13,6 @@ ghost use Rattle.seek.specs.Tables.{TableMeets};
 
 mod nest;
 mod steps;
-
-// How deep values may nest.
-const LEVELS: usize = 32;
 
 // A table's first byte, what it opens with, and its row; or there are not so many.
 pub enum TableFound {
@@ -34,7 +32,7 @@ pub fn table_at(message: &[u8], number: usize) -> TableFound
         return TableFound::Missing;
     }
     let at = skip(message, 0);
-    match member(message, LEVELS, false, at, 0, number) {
+    match member(message, VALUE_LEVELS, false, at, 0, number) {
         Sought::Refused => TableFound::Missing,
         Sought::Past(_, _, _) => TableFound::Missing,
         Sought::Table(brace, first, row) => TableFound::At { first, brace, row },

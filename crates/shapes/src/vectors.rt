@@ -3,6 +3,7 @@ use crate::Dims;
 use crate::dimensions::Form;
 use crate::dimensions::item;
 use crate::dimensions::marked;
+use format::limits::DIMENSION_LIMIT;
 use format::limits::LIMIT;
 use format::marks::ARRAY_END;
 use format::marks::COUNT;
@@ -19,6 +20,9 @@ ghost use Rattle.format.specs.Dimensions as Dimensions;
 ghost use Rattle.format.specs.Dimensions.{counted as countedAt, countedBare as countedBareAt, vector as vectorAt};
 ghost use Rattle.tokens.specs.Answers.{Here};
 ghost use Rattle.shapes.specs.Answers.{capped, Meets, Within, itemOf, Wide};
+
+// How many dimensions there may be, as a count is read.
+const MOST_DIMENSIONS: u32 = DIMENSION_LIMIT as u32;
 
 // The highest product, and the most that one is said to be.
 const MOST: usize = LIMIT as usize;
@@ -89,7 +93,7 @@ fn counted(
             if n < 1 {
                 return Dims::Fault(6, place);
             }
-            if 8 < n {
+            if MOST_DIMENSIONS < n {
                 return Dims::Fault(6, place);
             }
             repeated(message, rows, lent, n, form, next, row)
@@ -142,7 +146,7 @@ fn listed(
     ensures bounds { λ r. ⌜ Within r at (length (now (message .entry))) lent ⌝ }
 {
     let end = message.len();
-    let mut left = 8u32;
+    let mut left = MOST_DIMENSIONS;
     let mut here = at;
     let mut free = row;
     let mut many = 1;

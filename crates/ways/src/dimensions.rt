@@ -2,6 +2,7 @@
 use crate::links::along;
 use crate::needs::Need;
 use format::answers::Found;
+use format::limits::DIMENSION_LIMIT;
 use rows::load;
 ghost use mathlib.Core.Path.{_≡_};
 ghost use Prim.Native.Nat.{_≤_, _<_};
@@ -28,7 +29,7 @@ fn rows_from(rows: &[u32], container: usize, stop: usize, from: usize, into: &mu
         match along(rows, Need::Dimension, stop, row) {
             Found::Refused(number) => return Gathered::Refused(number),
             Found::Row(next) => {
-                if many == 8 {
+                if many == DIMENSION_LIMIT {
                     return Gathered::Refused(12);
                 }
                 into[many] = load(rows, row).count;
