@@ -7,6 +7,7 @@ use lines::numbers::stand_at;
 use lines::show::bytes;
 use lines::show::number;
 use lines::show::three;
+use lines::signed::magnitude;
 ghost use mathlib.Core.Path.{_≡_};
 ghost use mathlib.Core.Bool.{true};
 ghost use Rattle.format.specs.Answers.{nanApart};
@@ -54,10 +55,8 @@ pub fn found(answer: Found) {
 fn signed(n: i64) {
     if n < 0 {
         bytes(b"-");
-        number((-1 - n) as u64 + 1);
-        return;
     }
-    number(n as u64);
+    number(magnitude(n));
 }
 
 // A case's name and a number.

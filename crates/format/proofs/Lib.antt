@@ -10,3 +10,4 @@ pub mod SameBytes
 pub mod Products
 pub mod KindNumbers
 pub mod Tests
+pub mod Magnitudes

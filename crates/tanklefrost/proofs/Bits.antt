@@ -10,7 +10,7 @@ use mir.Syntax.{w64}
 use mir.Val.{SFits, toZ, ofZ}
 use mir.Facts.{toZ-ofZ}
 use Rattle.format.specs.Values.{signed}
-use Rattle.values.proofs.Magnitudes.{left-below}
+use Rattle.format.proofs.Magnitudes.{left-below}
 use Rattle.tanklefrost.specs.Answers.{bitsFor}
 
 -- of a negative number

@@ -1,18 +1,10 @@
 // Changes of the bytes of one slot: nothing else may change.
-use crate::ask;
 use crate::entries;
-use crate::numbers::byte;
-use crate::numbers::least;
-use crate::numbers::low;
-use crate::numbers::narrow;
-use crate::numbers::set_byte;
-use crate::numbers::sum;
 use crate::same::is_slot;
 use crate::same::same_bytes;
 use crate::same::same_slot;
 use crate::same::same_value;
 use crate::same::same_words;
-use crate::shape;
 use crate::tally::Tally;
 use crate::tally::next;
 use format::answers::Answer;
@@ -20,6 +12,14 @@ use format::marks::CHAR;
 use format::marks::TEXT;
 use format::marks::TRUE;
 use generate::pen::Pen;
+use grid::ask;
+use grid::numbers::byte;
+use grid::numbers::least;
+use grid::numbers::low;
+use grid::numbers::narrow;
+use grid::numbers::set_byte;
+use grid::numbers::sum;
+use grid::shape;
 
 // The changes that are tried for a message.
 const CHANGES: u64 = 4;

@@ -1,8 +1,8 @@
 // The list of a message's slots: five numbers are an entry.
-use crate::numbers::least;
-use crate::numbers::narrow;
-use crate::numbers::sum;
-use crate::numbers::wide;
+use grid::numbers::least;
+use grid::numbers::narrow;
+use grid::numbers::sum;
+use grid::numbers::wide;
 
 // The entries that the list has room for.
 pub const ENTRIES: usize = 1024;

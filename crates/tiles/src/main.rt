@@ -1,16 +1,13 @@
 // Asks for every slot of messages made by chance, and for addresses beside them; changes slots, and compares all others.
-mod ask;
 mod buffers;
 mod changes;
 mod entries;
 mod messages;
-mod numbers;
 mod order;
 mod outside;
 mod payloads;
 mod readings;
 mod same;
-mod shape;
 mod show;
 mod tally;
 mod tiling;

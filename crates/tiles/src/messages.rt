@@ -1,13 +1,13 @@
 // The messages, each by its number.
 use crate::changes;
-use crate::numbers::least;
-use crate::numbers::narrow;
 use crate::payloads;
 use crate::readings;
 use crate::tally::Tally;
 use crate::tally::next;
 use crate::tally::none;
 use format::answers::Answer;
+use grid::numbers::least;
+use grid::numbers::narrow;
 
 // How many messages are made.
 const MESSAGES: u64 = 40_000;

@@ -1,36 +1,14 @@
 // The addresses of a packed array or a table, in storage order.
 use crate::entries;
-use crate::numbers::quotient;
-use crate::numbers::sum;
-use crate::shape::is_leaf;
-use crate::shape::is_packed;
-use crate::shape::is_table;
-use crate::shape::link;
-use crate::shape::schema_end;
 use format::marks::OBJECT;
+use grid::numbers::quotient;
+use grid::numbers::sum;
+use grid::shape::is_packed;
+use grid::shape::leaves;
+use grid::shape::link;
+use grid::shape::names;
+use grid::shape::schema_end;
 use rows::word;
-
-// Whether the row names slots of this packed array, which is its own row alone, or of this table.
-pub fn names(rows: &[u32], row: usize, leaf: usize) -> bool {
-    if is_table(rows, row) {
-        return is_leaf(rows, leaf) && row < leaf && leaf < schema_end(rows, row);
-    }
-    leaf == row
-}
-
-// How many rows name slots of it.
-fn leaves(rows: &[u32], row: usize) -> usize {
-    let end = link(rows, row);
-    let mut n: usize = 0;
-    let mut r = row;
-    while r < end {
-        if names(rows, row, r) {
-            n = sum(n, 1);
-        }
-        r += 1;
-    }
-    n
-}
 
 // Whether it has at most so many slots.
 pub fn fits(rows: &[u32], row: usize, room: usize) -> bool {

@@ -1,16 +1,16 @@
 // Addresses that name no slot: each must be refused with the number that document 01 says.
-use crate::ask::located;
-use crate::numbers::less;
-use crate::numbers::set_index;
-use crate::numbers::sum;
-use crate::order::names;
 use crate::same::is_refusal;
-use crate::shape;
 use crate::tally::Tally;
 use crate::tally::next;
 use addresses::calls::packed_slot;
 use addresses::calls::table_slot;
 use format::answers::Located;
+use grid::ask::located;
+use grid::numbers::less;
+use grid::numbers::set_index;
+use grid::numbers::sum;
+use grid::shape;
+use grid::shape::names;
 
 // No such address, and rows that don't fit the request.
 const NOT_THERE: u32 = 10;

@@ -1,14 +1,14 @@
 // The packed arrays and tables of a message.
 use crate::entries::ENTRIES;
-use crate::numbers::least;
-use crate::numbers::less;
-use crate::numbers::sum;
 use crate::order;
 use crate::outside;
-use crate::shape;
 use crate::tally::Tally;
 use crate::tally::next;
 use crate::tiling;
+use grid::numbers::least;
+use grid::numbers::less;
+use grid::numbers::sum;
+use grid::shape;
 use rows::word;
 
 // The slots that a packed array or a table may have to be gone through.

@@ -1,14 +1,14 @@
 // What the value and text calls answer in the slots of an accepted message.
-use crate::ask;
 use crate::entries;
-use crate::numbers::least;
 use crate::same::is_refusal;
 use crate::same::is_slot;
 use crate::same::is_value;
-use crate::shape;
 use crate::tally::Tally;
 use crate::tally::next;
 use format::marks::TEXT;
+use grid::ask;
+use grid::numbers::least;
+use grid::shape;
 
 // The refusal of a mark that doesn't fit.
 const DONT_FIT: u32 = 12;

@@ -1,9 +1,9 @@
 // Whether two answers are the same, and two parts of memory.
-use crate::numbers::byte;
-use crate::numbers::sum;
 use format::answers::Located;
 use format::answers::Value;
 use format::answers::Valued;
+use grid::numbers::byte;
+use grid::numbers::sum;
 
 // A value answer by numbers: the token's kind, the value's case, and what the case holds.
 struct Content {

@@ -1,7 +1,6 @@
 pub mod FloatBits
 pub mod HalfExamples
 pub mod Halves
-pub mod Magnitudes
 pub mod Marked
 pub mod ScalarCases
 pub mod Signs

@@ -1,6 +1,6 @@
 -- `twos_complement`: by whether the number is negative. Assumes nothing.
 use native.Mathlib.Omega.{arith}
-use Rattle.values.proofs.Magnitudes.{plain, less-fits, less-casts}
+use Rattle.format.proofs.Magnitudes.{plain, less-fits, less-casts}
 use Rattle.tanklefrost.proofs.Bits.{negative-bits, plain-bits}
 use Rattle.tanklefrost.proofs.answers.twos_complement.Statement.{statement}
 use Rattle.tanklefrost.proofs.answers.twos_complement.Tie as tie

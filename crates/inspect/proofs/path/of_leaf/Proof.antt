@@ -1,0 +1,31 @@
+-- `path::of_leaf`: a loop over rows. Assumes nothing.
+use borrow.Author.Needs.{needs}
+use Prim.Native.Nat.{_-_}
+use lib.ListN.{length}
+use mathlib.Core.Path.{_≡_}
+use Rattle.inspect.proofs.path.of_leaf.Statement.{statement}
+use Rattle.inspect.proofs.path.of_leaf.Tie as tie
+
+abbrev Inv-loop : tie.InvT-loop
+Inv-loop message rows table leaf out₀ at schema end next₀ holder₀ row₀ out next holder row = length out ≡ length out₀
+
+abbrev μ-loop : tie.MeasureT-loop
+μ-loop message rows table leaf out₀ at schema end next₀ holder₀ row₀ out next holder row = end - row
+
+pub of-leaf-spec : {M : Type 1} → statement M
+of-leaf-spec =
+    tie.close
+    (tie.spec
+    Inv-loop
+    μ-loop
+    (λ c κs. search needs)
+    (λ c κs. search needs)
+    (λ c κs. search needs)
+    (λ c. search needs)
+    (λ c κs. search needs)
+    (λ c κs. search needs)
+    (λ c. search needs)
+    (λ c. search needs)
+    (λ c. search needs)
+    (λ c. search needs)
+    (λ c. search needs))

@@ -1,0 +1,31 @@
+-- `payloads::list`: a loop over the indexes. Assumes nothing.
+use borrow.Author.Needs.{needs}
+use Prim.Native.Nat.{_-_}
+use lib.ListN.{length}
+use mathlib.Core.Path.{_≡_}
+use Rattle.inspect.proofs.payloads.list.Statement.{statement}
+use Rattle.inspect.proofs.payloads.list.Tie as tie
+
+abbrev Inv-loop : tie.InvT-loop
+Inv-loop indexes count out₀ at next₀ j₀ out next j = length out ≡ length out₀
+
+abbrev μ-loop : tie.MeasureT-loop
+μ-loop indexes count out₀ at next₀ j₀ out next j = count - j
+
+pub list-spec : {M : Type 1} → statement M
+list-spec =
+    tie.close
+    (tie.spec
+    Inv-loop
+    μ-loop
+    (λ c κs. search needs)
+    (λ c κs. search needs)
+    (λ c. search needs)
+    (λ c κs. search needs)
+    (λ c κs. search needs)
+    (λ c κs. search needs)
+    (λ c. search needs)
+    (λ c. search needs)
+    (λ c. search needs)
+    (λ c. search needs)
+    (λ c. search needs))

@@ -1,0 +1,27 @@
+-- `payloads::value_slots`: a loop over rows. Assumes nothing.
+use borrow.Author.Needs.{needs}
+use Prim.Native.Nat.{_-_}
+use lib.ListN.{length}
+use mathlib.Core.Path.{_≡_}
+use Rattle.inspect.proofs.payloads.value_slots.Statement.{statement}
+use Rattle.inspect.proofs.payloads.value_slots.Tie as tie
+
+abbrev Inv-loop : tie.InvT-loop
+Inv-loop message rows hex row from end number out₀ at next₀ r₀ out next r = length out ≡ length out₀
+
+abbrev μ-loop : tie.MeasureT-loop
+μ-loop message rows hex row from end number out₀ at next₀ r₀ out next r = end - r
+
+pub value-slots-spec : {M : Type 1} → statement M
+value-slots-spec =
+    tie.close
+    (tie.spec
+    Inv-loop
+    μ-loop
+    (λ c. search needs)
+    (λ c κs. search needs)
+    (λ c. search needs)
+    (λ c. search needs)
+    (λ c. search needs)
+    (λ c. search needs)
+    (λ c. search needs))

@@ -1,0 +1,134 @@
+// What is shown of a message.
+use crate::address;
+use crate::arguments::Asked;
+use crate::arguments::is_plain;
+use crate::bytes;
+use crate::dump;
+use crate::names;
+use crate::payloads;
+use crate::tree;
+use crate::verdict;
+use format::answers::Answer;
+use grid::numbers::least;
+use libc::STDOUT_FILENO;
+use reader::message::read;
+use rewriter::message::rewrite;
+use show::block::line;
+
+// The rows, if asked for.
+fn rows_view(
+    message: &[u8],
+    rows: &[u32],
+    used: usize,
+    asked: Asked,
+    out: &mut [u8],
+    at: usize,
+) -> usize {
+    if asked.rows || is_plain(asked) {
+        return tree::some(message, rows, 0, used, out, at);
+    }
+    at
+}
+
+// The slots, if asked for.
+fn slots_view(
+    message: &[u8],
+    rows: &[u32],
+    used: usize,
+    asked: Asked,
+    out: &mut [u8],
+    at: usize,
+) -> usize {
+    if asked.slots {
+        return payloads::every(message, rows, used, out, at);
+    }
+    at
+}
+
+// The bytes, if asked for.
+fn bytes_view(
+    message: &[u8],
+    rows: &[u32],
+    used: usize,
+    asked: Asked,
+    out: &mut [u8],
+    at: usize,
+) -> usize {
+    if asked.hex {
+        return bytes::all(message, rows, used, out, at);
+    }
+    at
+}
+
+// One address, if asked for.
+fn address_view(message: &[u8], rows: &[u32], asked: Asked, out: &mut [u8], at: usize) -> usize {
+    if asked.address != 0 {
+        return address::argument(message, rows, asked.address, asked.color, out, at);
+    }
+    at
+}
+
+// A path of names, if asked for.
+fn name_view(message: &[u8], rows: &[u32], asked: Asked, out: &mut [u8], at: usize) -> usize {
+    if asked.name != 0 {
+        return names::argument(message, rows, asked.name, out, at);
+    }
+    at
+}
+
+// An accepted message.
+fn accepted(
+    message: &[u8],
+    rows: &[u32],
+    used: usize,
+    asked: Asked,
+    out: &mut [u8],
+    at: usize,
+) -> usize {
+    let told = verdict::accepted(used, asked.color, out, at);
+    let first = rows_view(message, rows, used, asked, out, told);
+    let second = slots_view(message, rows, used, asked, out, first);
+    let third = bytes_view(message, rows, used, asked, out, second);
+    let fourth = address_view(message, rows, asked, out, third);
+    name_view(message, rows, asked, out, fourth)
+}
+
+// A refused message; all of its bytes, if asked for.
+fn refused(
+    message: &[u8],
+    refusal: u32,
+    place: usize,
+    asked: Asked,
+    out: &mut [u8],
+    at: usize,
+) -> usize {
+    let told = verdict::refused(message, refusal, place, asked.color, out, at);
+    if asked.hex {
+        return dump::lines(out, told, message, 0, message.len());
+    }
+    told
+}
+
+// A message, as it is asked for.
+pub fn shown(message: &[u8], rows: &mut [u32], asked: Asked, out: &mut [u8], at: usize) -> usize {
+    let sized = verdict::size(message, out, at);
+    match read(message, rows) {
+        Answer::Done(used) => accepted(message, rows, used, asked, out, sized),
+        Answer::Refused(refusal, place) => refused(message, refusal, place, asked, out, sized),
+    }
+}
+
+// A message in house form; a refusal goes to standard error.
+pub fn rewritten(message: &[u8], rows: &mut [u32], house: &mut [u8], out: &mut [u8]) {
+    match rewrite(message, rows, house) {
+        Answer::Done(written) => {
+            let n = least(written, house.len());
+            io::write_all(STDOUT_FILENO, &house[..n]);
+        }
+        Answer::Refused(refusal, place) => {
+            let told = verdict::reason(refusal, place, out, 0);
+            let end = line(out, told);
+            crate::help::errors(out, end);
+        }
+    }
+}

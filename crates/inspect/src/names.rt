@@ -1,0 +1,100 @@
+// The row that a path of names leads to.
+use crate::tree;
+use format::answers::Found;
+use grid::numbers::sum;
+use grid::shape;
+use lookup::lookup;
+use show::block::line;
+use show::block::text;
+use show::numbers::number;
+use show::scalars::refused;
+
+// The end of the name that starts at a place.
+fn name_end(path: &[u8], from: usize) -> usize {
+    let mut at = from;
+    while at < path.len() && path[at] != b'/' {
+        at += 1;
+    }
+    at
+}
+
+// The row whose names are looked up: of a table its schema's.
+fn holder(rows: &[u32], row: usize) -> usize {
+    if shape::is_table(rows, row) {
+        return sum(row, 1);
+    }
+    row
+}
+
+// The row that one name leads to.
+fn follow(message: &[u8], rows: &[u32], row: usize, path: &[u8], from: usize, end: usize) -> Found {
+    if from <= end && end <= path.len() {
+        return lookup(message, rows, holder(rows, row), &path[from..end]);
+    }
+    Found::Refused(10)
+}
+
+// The row that was found; none where the name was refused.
+fn row_of(found: Found) -> usize {
+    match found {
+        Found::Row(row) => row,
+        Found::Refused(_) => 0,
+    }
+}
+
+// Whether a name was refused.
+fn is_refused(found: Found) -> bool {
+    match found {
+        Found::Row(_) => false,
+        Found::Refused(_) => true,
+    }
+}
+
+// The row that a path leads to, from row 0 on.
+fn found(message: &[u8], rows: &[u32], path: &[u8]) -> Found {
+    let mut row: usize = 0;
+    let mut from: usize = 0;
+    while from <= path.len() {
+        let end = name_end(path, from);
+        let next = follow(message, rows, row, path, from, end);
+        if is_refused(next) {
+            return next;
+        }
+        if path.len() <= end {
+            return next;
+        }
+        if end < from {
+            return next;
+        }
+        row = row_of(next);
+        from = end + 1;
+    }
+    Found::Row(row)
+}
+
+// What a path leads to: a refusal, or a row and those below it.
+fn shown(message: &[u8], rows: &[u32], answer: Found, out: &mut [u8], at: usize) -> usize {
+    match answer {
+        Found::Refused(refusal) => {
+            let told = refused(out, at, refusal);
+            line(out, told)
+        }
+        Found::Row(row) => {
+            let begun = text(out, at, b"row ");
+            let told = number(out, begun, row);
+            let ended = line(out, told);
+            tree::some(message, rows, row, shape::link(rows, row), out, ended)
+        }
+    }
+}
+
+// The path of argument i.
+pub fn argument(message: &[u8], rows: &[u32], i: usize, out: &mut [u8], at: usize) -> usize {
+    let mut path = io::buffer();
+    let n = os::arg(i, &mut path);
+    let begun = text(out, at, b"name ");
+    let told = text(out, begun, &path[..n]);
+    let colon = text(out, told, b": ");
+    let answer = found(message, rows, &path[..n]);
+    shown(message, rows, answer, out, colon)
+}

@@ -1,0 +1,16 @@
+-- `block::flush`: what is written is a part of the block. Assumes nothing.
+use borrow.Author.Needs.{needs}
+use borrow.Table.Elements.{length-take-le}
+use mathlib.Core.Path.{sym}
+use native.Mathlib.Omega.{arith}
+use Rattle.show.proofs.block.flush.Statement.{statement}
+use Rattle.show.proofs.block.flush.Tie as tie
+
+pub flush-spec : {M : Type 1} → statement M
+flush-spec =
+    tie.close
+    (tie.spec
+    (λ c κs. search needs)
+    (λ c. sym (length-take-le _ _ (omega arith)))
+    (λ c κs. search needs)
+    (λ c. search needs))

@@ -1,0 +1,93 @@
+#!/usr/bin/env python3
+"""make.py: writes the sample messages beside it, the same each time."""
+import os
+import struct
+
+HERE = os.path.dirname(os.path.abspath(__file__))
+ROOMS = 40
+# The rooms whose alert mark is set.
+ALERTS = (3, 17, 18, 31)
+
+
+def key(name):
+    return b"U" + bytes([len(name)]) + name
+
+
+def schema(*fields):
+    return b"{" + b"".join(key(name) + kind for name, kind in fields) + b"}"
+
+
+def temperature(room):
+    """A quarter of a degree is a power of two, so that each is a single exactly; room 17 has a tenth, which is none."""
+    return struct.pack("<f", 28.1 if room == 17 else 20.25 + 0.25 * (room % 9))
+
+
+def alert(room):
+    return b"T" if room in ALERTS else b"F"
+
+
+def time(room):
+    return struct.pack("<I", 1_794_787_200 + 60 * room)
+
+
+FIELDS = schema((b"temperature", b"d"), (b"alert", b"T"), (b"time", b"m"))
+COLUMNS = (temperature, alert, time)
+PLACES = schema((b"name", b"SU\x06"), (b"at", schema((b"x", b"h"), (b"y", b"h"))), (b"beds", b"[UUC]"), (b"free", b"Z"))
+
+
+def floor_rows():
+    return b"[$" + FIELDS + b"#U" + bytes([ROOMS]) + b"".join(column(room) for room in range(ROOMS) for column in COLUMNS)
+
+
+def floor_columns():
+    return b"{$" + FIELDS + b"#U" + bytes([ROOMS]) + b"".join(column(room) for column in COLUMNS for room in range(ROOMS))
+
+
+def place(name, x, y, beds):
+    return name, struct.pack("<ee", x, y), bytes(beds) + b"W"
+
+
+PLACED = [place("Küche".encode(), 1.5, -2.25, (0, 1)), place(b"Flur 2", 65504.0, 0.0, (2, 3)), place(b'"A"\\\n\x00', float("-inf"), float("nan"), (4, 5))]
+
+
+def report():
+    """One of everything: an object of scalars, texts, packed arrays of both orders and tables, with no-ops between."""
+    grid = b"[$U#[[U\x02U\x03]]" + bytes(range(1, 7))
+    rows = b"[$" + PLACES + b"#[U\x01U\x03]" + b"".join(name + at + beds for name, at, beds in PLACED)
+    columns = b"{$" + PLACES + b"#U\x03" + b"".join(name for name, _, _ in PLACED) + b"".join(at for _, at, _ in PLACED) + b"".join(beds for _, _, beds in PLACED)
+    scalars = b"[ZTFi\x80U\xffI\x00\x80u\xff\xffl\x00\x00\x00\x80m\xff\xff\xff\xffN" + b"L" + struct.pack("<q", -(2**63)) + b"M" + struct.pack("<Q", 2**64 - 1)
+    floats = b"h\x01\x00h\x00~d" + struct.pack("<f", -0.1) + b"D" + struct.pack("<d", 21.6) + b"D" + struct.pack("<d", 1e300) + b"D" + struct.pack("<d", -0.0) + b"C'B\xab]"
+    texts = b"[#U\x03" + b"SU\x07ward\n\t\x1b" + b"HU\x07-1.5e10" + b"Su" + struct.pack("<H", 300) + b"long " * 60
+    typed = b"{$u#U\x02" + key(b"a") + b"\x01\x00" + key(b"b") + b"\x02\x01"
+    members = [
+        (b"scalars", scalars + floats), (b"texts", texts), (b"typed", typed), (b"grid", grid),
+        (b"shape", b"[$I#[$U#U\x02\x02\x02" + struct.pack("<4h", 1, -2, 3, -4)), (b"rows", rows), (b"columns", columns), (b"", b"[]"), (b"none", b"{}"),
+    ]
+    return b"N{" + b"".join(key(name) + b"N" + value for name, value in members) + b"N}N"
+
+
+# For each number that reading answers, a message that is refused with it. 1 and 8 need large ones, which `check` makes.
+REFUSED = {
+    2: b"[$U#U\x05\x01\x02",
+    3: b"[$d]",
+    4: b"{U\x04nameSU\x03a\xffb}",
+    5: b"[$U#m\x01\x00\x10\x00",
+    6: b"[$U#[U\x01U\x01U\x01U\x01U\x01U\x01U\x01U\x01U\x01]\x07",
+    7: b"[" * 33,
+    9: b"{U\x01aU\x05}NU\x06",
+    13: b"[${U\x01aHU\x01}#U\x00",
+}
+
+
+def stored():
+    yield "floor-rows", floor_rows()
+    yield "floor-columns", floor_columns()
+    yield "report", report()
+    for number, message in REFUSED.items():
+        yield f"refused-{number}", message
+
+
+if __name__ == "__main__":
+    for name, message in stored():
+        with open(os.path.join(HERE, name + ".bjd"), "wb") as file:
+            file.write(message)
