@@ -8,5 +8,5 @@ int main()
     tanklefrost_reading a = tanklefrost_read(message, sizeof message, rows, 16);
     uint64_t needed = tanklefrost_rows_needed(message, sizeof message);
     tanklefrost_scalar v = tanklefrost_value_at_row(message, sizeof message, rows, 16, 1);
-    return a.number == TANKLEFROST_DONE && a.amount == 2 && tanklefrost_answer_rows(needed) == 2 && v.value_case == TANKLEFROST_NULL ? 0 : 1;
+    return a.number == TANKLEFROST_DONE && a.amount == 2 && tanklefrost_answer_rows(needed) == 2 && v.number == 0 && v.kind == 1 && v.value_case == TANKLEFROST_NULL ? 0 : 1;
 }

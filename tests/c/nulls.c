@@ -33,8 +33,10 @@ int main(void)
     memset(rows, GUARD, sizeof rows);
     CHECK(is_reading(tanklefrost_read(NULL, 0, rows, 8), TANKLEFROST_ENDS_TOO_EARLY, 0, 0));
     CHECK(rows[0] == 0 && memcmp(rows, rows + 1, sizeof rows - sizeof rows[0]) == 0);
+    CHECK(is_reading(tanklefrost_rewrite(NULL, 0, NULL, 0, NULL, 0), TANKLEFROST_ENDS_TOO_EARLY, 0, 0));
 
     /* no rows */
+    CHECK(is_reading(tanklefrost_rewrite(message, sizeof message, NULL, 0, NULL, 0), TANKLEFROST_NO_ROW_LEFT, 0, 0));
     CHECK(is_reading(tanklefrost_read(message, sizeof message, NULL, 0), TANKLEFROST_NO_ROW_LEFT, 0, 0));
     CHECK(is_place(tanklefrost_packed_slot(NULL, 0, 0, 0, NULL, 0), TANKLEFROST_ROWS_DONT_FIT, 0, 0));
     CHECK(is_place(tanklefrost_table_slot(NULL, 0, 0, 0, 0, NULL, 0), TANKLEFROST_ROWS_DONT_FIT, 0, 0));
@@ -55,5 +57,10 @@ int main(void)
     CHECK(is_reading(tanklefrost_read((const uint8_t *)"{}", 2, rows, 8), 0, 0, 1));
     m = tanklefrost_lookup(NULL, 0, rows, 8, 0, NULL, 0);
     CHECK(m.number == TANKLEFROST_NOT_THERE && m.row == 0);
+
+    /* rows, and no room for the house form */
+    memset(rows, GUARD, sizeof rows);
+    CHECK(is_reading(tanklefrost_rewrite(message, sizeof message, rows, 8, NULL, 0), TANKLEFROST_OUTPUT_TOO_LONG, 0, 0));
+    CHECK(rows[0] == 0 && memcmp(rows, rows + 1, sizeof rows - sizeof rows[0]) == 0);
     return report("nulls");
 }

@@ -54,10 +54,6 @@ int main(void)
     CHECK(a.number == 0 && a.place == 0 && a.amount == 4 && memcmp(once, house, 4) == 0);
     a = rewrite((const uint8_t *)"[]", 2, 3, 1, once);
     CHECK(a.number == TANKLEFROST_OUTPUT_TOO_LONG && a.place == 0 && a.amount == 0);
-    a = tanklefrost_rewrite(NULL, 0, NULL, 0, NULL, 0);
-    CHECK(a.number == TANKLEFROST_ENDS_TOO_EARLY && a.place == 0 && a.amount == 0);
-    a = tanklefrost_rewrite((const uint8_t *)"[]", 2, NULL, 0, NULL, 0);
-    CHECK(a.number == TANKLEFROST_NO_ROW_LEFT && a.place == 0 && a.amount == 0);
 
     while (fgets(line, sizeof line, f) != NULL) {
         char *rest = line, *call = word(&rest);
@@ -68,6 +64,7 @@ int main(void)
         put_hex(&m, word(&rest));
         at_end = !at_end;
         a = rewrite(m.at, m.size, 4 * m.size + 16, at_end, once);
+        CHECK(a.number != TANKLEFROST_OUTPUT_TOO_LONG);
         if (a.number == 0) {
             struct tanklefrost_reading again = rewrite(once, a.amount, a.amount, at_end, twice);
             CHECK(again.number == 0 && again.amount == a.amount && memcmp(once, twice, a.amount) == 0);

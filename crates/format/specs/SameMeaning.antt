@@ -1,5 +1,5 @@
--- Same meaning: equal rows apart from words that go by the row's kind, and equal bytes in texts, keys, scalars and the payloads
--- of kinds 7 and 8.
+-- 01, "House form": same meaning, 01's own term. Equal rows apart from words that go by the row's kind, and equal bytes in texts, keys,
+-- scalars and the payloads of kinds 7 and 8.
 use Prim.Native.Nat.{ℕ, suc}
 use mathlib.Core.Path.{_≡_}
 use mathlib.Core.Bool.{Bool}

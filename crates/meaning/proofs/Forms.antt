@@ -2,15 +2,18 @@
 -- objects are counted and untyped, and integers have the smallest mark. Assumes nothing.
 use Prim.Native.Nat.{ℕ, _≤_}
 use mathlib.Core.Path.{_≡_, ap, subst, _∙_}
-use mathlib.Core.List.{List, _∷_, _++_}
+use mathlib.Core.List.{List, [], _∷_, _++_}
 use lib.ListN.{length, drop}
+use lib.Dec.{eqb}
 use Rattle.format.specs.Limits.{limit}
-use Rattle.format.specs.Marks.{Opening, bracket, brace, opens, '#', '$'}
-use Rattle.format.specs.Tokens.{Kind, text, highPrecision, key, packed, table, dimension, Token, Forest}
+use Rattle.format.specs.Conditions.{if_then_else_}
+use Rattle.format.specs.Marks.{Opening, bracket, brace, opens, closes, 'S', '#', '$'}
+use Rattle.format.specs.Tokens.{Kind, text, highPrecision, key, packed, table, leaf, dimension, Token, Forest}
 use Rattle.format.specs.HouseForm.{smallInteger, shape, tableForm, payloadOf, token, written, house}
 use Rattle.format.specs.Containers.{containerKind}
 use Rattle.laws.specs.Places.{At, here, under, later}
 use Rattle.laws.proofs.Holds.{of-done}
+use Rattle.laws.proofs.Schemas.{groupKind}
 use Rattle.meaning.specs.Rewriting.{InHouseForm}
 use Rattle.meaning.specs.Standing.{Stands, AllStand, nextToken}
 use Rattle.meaning.proofs.Accepting.{read-finds}
@@ -60,6 +63,17 @@ module _ (h : List ℕ) (rowsLent : ℕ) (s : InHouseForm h rowsLent) where
     pub keys-small : t .kind ≡ key → StandsAs (smallInteger (t .extent) ++ payloadOf h t)
     unfolding token
     keys-small e = stands-as key e
+
+    -- A leaf of a schema has its mark, and the width of a text likewise.
+    pub leaves-small : t .kind ≡ leaf → StandsAs (t .mark ∷ (if eqb (t .mark) 'S' then smallInteger (t .extent) else []))
+    unfolding token
+    leaves-small e = stands-as leaf e
+
+    -- A schema or fixed array has its members between its marks, without a gap.
+    pub groups-form : (o : Opening) → t .kind ≡ groupKind o → StandsAs (opens o ∷ house h below ++ closes o ∷ [])
+    unfolding token opens closes house
+    groups-form bracket e = stands-as _ e
+    groups-form brace e = stands-as _ e
 
     -- A dimension is marked.
     pub dimensions-small : t .kind ≡ dimension → StandsAs (smallInteger (t .count))

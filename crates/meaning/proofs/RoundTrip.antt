@@ -135,9 +135,12 @@ module _ (m : List ℕ) (rowsLent : ℕ) (f : Forest) (accepted : Read.read m ro
   pub round-trip : Rewritten m f rowsLent (house m f)
   round-trip = round-trip-with rowsLent lent
 
-  -- It is its own house form: rewriting it again changes nothing.
+  -- It is its own house form, with any such number of rows: rewriting it again changes nothing.
+  pub house-settles-with : (rows : ℕ) → size f ≤ rows → InHouseForm (house m f) rows
+  house-settles-with rows enough = let r = copied-tokens rows enough in record { tokens = r .0; accepted = r .1; own = same-house m (house m f) (r .2 .same) }
+
   pub house-settles : InHouseForm (house m f) rowsLent
-  house-settles = let r = copied-tokens rowsLent lent in record { tokens = r .0; accepted = r .1; own = same-house m (house m f) (r .2 .same) }
+  house-settles = house-settles-with rowsLent lent
 
   -- Every token of it stands in it as it is written, from its first byte on.
   pub house-stands : (g : Forest) → Read.read (house m f) rowsLent ≡ done g → AllStand (house m f) g

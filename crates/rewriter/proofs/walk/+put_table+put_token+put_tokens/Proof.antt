@@ -24,7 +24,7 @@ use Rattle.rewriter.proofs.walk.put_tokens.Reads as put-tokens
 use Rattle.rewriter.proofs.walk.put_tokens.Kinds as put-tokens-kinds
 use Rattle.rewriter.proofs.walk.+put_table+put_token+put_tokens.Lts-put_tokens as put-tokens-lts
 use Rattle.rows.proofs.load.Reads as load-reads
-use Rattle.rows.proofs.link.Reads as link-of-reads
+use Rattle.rows.proofs.link.Reads as link-reads
 use Rattle.writer.proofs.kinds.is_single.Reads as is-single-reads
 use Rattle.writer.proofs.by_row.put_head.Reads as put-head-reads
 use Rattle.writer.proofs.by_row.put_middle.Reads as put-middle-reads
@@ -65,7 +65,7 @@ put-tokens-below t =
     and 3 put-tokens-kinds.ps (falls 3 put-tokens-kinds.ps _<_ μ-put-tokens t) put-tokens.Pre
 
 abbrev put-table-calls : ℕ → put-table-lts.Claims
-put-table-calls t = (link-of-reads.Asked, link-of-reads.Learnt, put-head-reads.Asked, put-head-reads.Learnt, put-tokens-below t, put-tokens.Post, put-middle-reads.Asked, put-middle-reads.Learnt, put-tail-reads.Asked, put-tail-reads.Learnt)
+put-table-calls t = (link-reads.Asked, link-reads.Learnt, put-head-reads.Asked, put-head-reads.Learnt, put-tokens-below t, put-tokens.Post, put-middle-reads.Asked, put-middle-reads.Learnt, put-tail-reads.Asked, put-tail-reads.Learnt)
 
 abbrev put-token-calls : ℕ → put-token-lts.Claims
 put-token-calls t = (is-single-reads.Asked, is-single-reads.Learnt, put-single-reads.Asked, put-single-reads.Learnt, put-table-below t, put-table.Post, put-head-reads.Asked, put-head-reads.Learnt, put-tokens-below t, put-tokens.Post, put-tail-reads.Asked, put-tail-reads.Learnt)
@@ -77,8 +77,8 @@ put-table-add-below : (t : ℕ) → put-table-lts.Need-add-below (put-table-call
 put-table-add-below t c =
     let h = c .before .before .before .pre .1 .0 .ends in omega arith
 
-put-table-link-of-requires : (t : ℕ) → put-table-lts.Need-link-of-requires (put-table-calls t) (put-table-at t) put-table.Post
-put-table-link-of-requires t c κs =
+put-table-link-requires : (t : ℕ) → put-table-lts.Need-link-requires (put-table-calls t) (put-table-at t) put-table.Post
+put-table-link-requires t c κs =
     search needs
 
 put-table-put-head-requires : (t : ℕ) → put-table-lts.Need-put-head-requires (put-table-calls t) (put-table-at t) put-table.Post
@@ -87,7 +87,7 @@ put-table-put-head-requires t c κs =
 
 put-table-put-tokens-requires : (t : ℕ) → put-table-lts.Need-put-tokens-requires (put-table-calls t) (put-table-at t) put-table.Post
 put-table-put-tokens-requires t c κs =
-    let o = token-table _ _ _ _ (c .before .before .before .before .before .before .before .before .before .pre .1 .0) (c .before .before .before .before .before .before .before .before .before .pre .1 .2) _ (c .before .before .before .before .before .link-of .ensures) in
+    let o = token-table _ _ _ _ (c .before .before .before .before .before .before .before .before .before .pre .1 .0) (c .before .before .before .before .before .before .before .before .before .pre .1 .2) _ (c .before .before .before .before .before .link .ensures) in
     let s = o .schema .ends in
     let d = o .dimensions .ends in
     let h = c .before .before .before .put-head .ensures .reach in let hf = head-few (Row.rowOf (c .before .before .before .before .before .before .before .before .before .args .r)) in
@@ -96,7 +96,7 @@ put-table-put-tokens-requires t c κs =
 
 put-table-put-middle-requires : (t : ℕ) → put-table-lts.Need-put-middle-requires (put-table-calls t) (put-table-at t) put-table.Post
 put-table-put-middle-requires t c κs =
-    let o = token-table _ _ _ _ (c .before .before .before .before .before .before .before .before .before .before .before .before .before .pre .1 .0) (c .before .before .before .before .before .before .before .before .before .before .before .before .before .pre .1 .2) _ (c .before .before .before .before .before .before .before .before .before .link-of .ensures) in
+    let o = token-table _ _ _ _ (c .before .before .before .before .before .before .before .before .before .before .before .before .before .pre .1 .0) (c .before .before .before .before .before .before .before .before .before .before .before .before .before .pre .1 .2) _ (c .before .before .before .before .before .before .before .before .before .link .ensures) in
     let s = o .schema .ends in
     let d = o .dimensions .ends in
     let h = c .before .before .before .before .before .before .before .put-head .ensures .reach in let hf = head-few (Row.rowOf (c .before .before .before .before .before .before .before .before .before .before .before .before .before .args .r)) in
@@ -106,7 +106,7 @@ put-table-put-middle-requires t c κs =
 
 put-table-put-tokens-requires-2 : (t : ℕ) → put-table-lts.Need-put-tokens-requires-2 (put-table-calls t) (put-table-at t) put-table.Post
 put-table-put-tokens-requires-2 t c κs =
-    let o = token-table _ _ _ _ (c .before .before .before .before .before .before .before .before .before .before .before .before .before .before .before .before .before .pre .1 .0) (c .before .before .before .before .before .before .before .before .before .before .before .before .before .before .before .before .before .pre .1 .2) _ (c .before .before .before .before .before .before .before .before .before .before .before .before .before .link-of .ensures) in
+    let o = token-table _ _ _ _ (c .before .before .before .before .before .before .before .before .before .before .before .before .before .before .before .before .before .pre .1 .0) (c .before .before .before .before .before .before .before .before .before .before .before .before .before .before .before .before .before .pre .1 .2) _ (c .before .before .before .before .before .before .before .before .before .before .before .before .before .link .ensures) in
     let s = o .schema .ends in
     let d = o .dimensions .ends in
     let h = c .before .before .before .before .before .before .before .before .before .before .before .put-head .ensures .reach in let hf = head-few (Row.rowOf (c .before .before .before .before .before .before .before .before .before .before .before .before .before .before .before .before .before .args .r)) in
@@ -117,7 +117,7 @@ put-table-put-tokens-requires-2 t c κs =
 
 put-table-put-tail-requires : (t : ℕ) → put-table-lts.Need-put-tail-requires (put-table-calls t) (put-table-at t) put-table.Post
 put-table-put-tail-requires t c κs =
-    let o = token-table _ _ _ _ (c .before .before .before .before .before .before .before .before .before .before .before .before .before .before .before .before .before .before .before .before .before .pre .1 .0) (c .before .before .before .before .before .before .before .before .before .before .before .before .before .before .before .before .before .before .before .before .before .pre .1 .2) _ (c .before .before .before .before .before .before .before .before .before .before .before .before .before .before .before .before .before .link-of .ensures) in
+    let o = token-table _ _ _ _ (c .before .before .before .before .before .before .before .before .before .before .before .before .before .before .before .before .before .before .before .before .before .pre .1 .0) (c .before .before .before .before .before .before .before .before .before .before .before .before .before .before .before .before .before .before .before .before .before .pre .1 .2) _ (c .before .before .before .before .before .before .before .before .before .before .before .before .before .before .before .before .before .link .ensures) in
     let s = o .schema .ends in
     let d = o .dimensions .ends in
     let h = c .before .before .before .before .before .before .before .before .before .before .before .before .before .before .before .put-head .ensures .reach in let hf = head-few (Row.rowOf (c .before .before .before .before .before .before .before .before .before .before .before .before .before .before .before .before .before .before .before .before .before .args .r)) in
@@ -133,7 +133,7 @@ put-table-same-length t c =
 
 put-table-returns : (t : ℕ) → put-table-lts.Need-returns (put-table-calls t) (put-table-at t) put-table.Post
 put-table-returns t c =
-    let o = token-table _ _ _ _ (c .before .before .before .before .before .before .before .before .before .before .before .before .before .before .before .before .before .before .before .before .before .before .before .before .pre .1 .0) (c .before .before .before .before .before .before .before .before .before .before .before .before .before .before .before .before .before .before .before .before .before .before .before .before .pre .1 .2) _ (c .before .before .before .before .before .before .before .before .before .before .before .before .before .before .before .before .before .before .before .before .link-of .ensures) in
+    let o = token-table _ _ _ _ (c .before .before .before .before .before .before .before .before .before .before .before .before .before .before .before .before .before .before .before .before .before .before .before .before .pre .1 .0) (c .before .before .before .before .before .before .before .before .before .before .before .before .before .before .before .before .before .before .before .before .before .before .before .before .pre .1 .2) _ (c .before .before .before .before .before .before .before .before .before .before .before .before .before .before .before .before .before .before .before .before .link .ensures) in
     let s = o .schema .ends in
     let d = o .dimensions .ends in
     let h = c .before .before .before .before .before .before .before .before .before .before .before .before .before .before .before .before .before .before .put-head .ensures .reach in let hf = head-few (Row.rowOf (c .before .before .before .before .before .before .before .before .before .before .before .before .before .before .before .before .before .before .before .before .before .before .before .before .args .r)) in
@@ -143,7 +143,7 @@ put-table-returns t c =
     let b2 = c .before .before .before .before .before .before .put-tokens2 .ensures .1 in
     let tr = c .before .before .put-tail .ensures .reach in let tf = tail-few (c .before .before .before .before .before .before .before .before .before .before .before .before .before .before .before .before .before .before .before .before .before .before .before .before .args .message .now) (c .before .before .before .before .before .before .before .before .before .before .before .before .before .before .before .before .before .before .before .before .before .before .before .before .pre .1 .1 .short) (Row.rowOf (c .before .before .before .before .before .before .before .before .before .before .before .before .before .before .before .before .before .before .before .before .before .before .before .before .args .r)) in (
       λ x.
-          let y = token-table _ _ _ _ x (c .before .before .before .before .before .before .before .before .before .before .before .before .before .before .before .before .before .before .before .before .before .before .before .before .pre .1 .2) _ (c .before .before .before .before .before .before .before .before .before .before .before .before .before .before .before .before .before .before .before .before .link-of .ensures) in
+          let y = token-table _ _ _ _ x (c .before .before .before .before .before .before .before .before .before .before .before .before .before .before .before .before .before .before .before .before .before .before .before .before .pre .1 .2) _ (c .before .before .before .before .before .before .before .before .before .before .before .before .before .before .before .before .before .before .before .before .link .ensures) in
           rw (y .form (c .before .before .before .before .before .before .before .before .before .before .before .before .before .before .before .before .before .before .before .before .before .before .before .before .args .message .now))
           (puts-append _ _ (puts-append _ _ (puts-append _ _ (puts-append _ _ (c .before .before .before .before .before .before .before .before .before .before .before .before .before .before .before .before .before .before .put-head .ensures) (c .before .before .before .before .before .before .before .before .before .before .before .before .before .before .put-tokens .ensures .0 (y .schema))) (c .before .before .before .before .before .before .before .before .before .before .put-middle .ensures)) (c .before .before .before .before .before .before .put-tokens2 .ensures .0 (y .dimensions))) (c .before .before .put-tail .ensures)),
       omega arith,
@@ -275,7 +275,7 @@ put-tokens-returns t c =
 pub +put-table+put-token+put-tokens-spec : {M : Type 1} → statement M
 +put-table+put-token+put-tokens-spec =
     close μ-put-table μ-put-token μ-put-tokens (λ t. put-table-lts.spec (put-table-calls t) (put-table-at t)
-    put-table.Post (put-table-add-below t) (put-table-link-of-requires t) (put-table-put-head-requires t) (put-table-put-tokens-requires t) (put-table-put-middle-requires t) (put-table-put-tokens-requires-2 t) (put-table-put-tail-requires t) (put-table-same-length t) (put-table-returns t)) (λ t. put-token-lts.spec (put-token-calls t) (put-token-at t)
+    put-table.Post (put-table-add-below t) (put-table-link-requires t) (put-table-put-head-requires t) (put-table-put-tokens-requires t) (put-table-put-middle-requires t) (put-table-put-tokens-requires-2 t) (put-table-put-tail-requires t) (put-table-same-length t) (put-table-returns t)) (λ t. put-token-lts.spec (put-token-calls t) (put-token-at t)
     put-token.Post (put-token-is-single-requires t) (put-token-put-single-requires t) (put-token-same-length t) (put-token-returns t) (put-token-put-table-requires t) (put-token-same-length-2 t) (put-token-returns-2 t) (put-token-add-below t) (put-token-put-head-requires t) (put-token-put-tokens-requires t) (put-token-put-tail-requires t) (put-token-same-length-3 t) (put-token-returns-3 t))
     λ t. put-tokens-lts.spec (put-tokens-calls t) (put-tokens-at t)
     put-tokens.Post
