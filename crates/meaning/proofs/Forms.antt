@@ -1,5 +1,5 @@
--- What a message in house form looks like: each of its tokens stands in it as it is written. So no `N` stands in a container, arrays and
--- objects are counted and untyped, and integers have the smallest mark. Assumes nothing.
+-- What a message in house form looks like: each of its tokens stands in it as it is written. So arrays and objects are counted and
+-- untyped, and integers have the smallest mark. Assumes nothing.
 use Prim.Native.Nat.{ℕ, _≤_}
 use mathlib.Core.Path.{_≡_, ap, subst, _∙_}
 use mathlib.Core.List.{List, [], _∷_, _++_}
@@ -44,7 +44,7 @@ module _ (h : List ℕ) (rowsLent : ℕ) (s : InHouseForm h rowsLent) where
     stands-as : (kind : Kind) → t .kind ≡ kind → StandsAs (token h kind t (written h below))
     stands-as kind e = let p = token-stands in (p .rest, p .stands ∙ ap (λ x. token h x t (written h below) ++ p .rest) e)
 
-    -- An array or object is counted and untyped, and what it holds follows without a gap: no `N`.
+    -- An array or object is counted and untyped, and what it holds follows.
     pub lists-counted : (o : Opening) → t .kind ≡ containerKind o → StandsAs (opens o ∷ '#' ∷ smallInteger (t .count) ++ house h below)
     unfolding token containerKind opens house
     lists-counted bracket e = stands-as _ e

@@ -16,3 +16,4 @@ pub mod RoundTrip
 pub mod Rewriting
 pub mod Canonical
 pub mod Forms
+pub mod Noops

@@ -9,7 +9,7 @@ use lib.Dec.{eqb}
 use borrow.Author.Tests.{eqb-true}
 use Rattle.format.specs.Conditions.{among}
 use Rattle.format.specs.Tokens.{Token, kindNumber, table, Forest, none, node, size}
-use Rattle.format.specs.Rows.{Row, word, rowAt, rowOf}
+use Rattle.format.specs.Rows.{Row, rowAt, rowOf}
 use Rattle.format.specs.HouseForm.{whole, token, written, house}
 use Rattle.laws.specs.Places.{here, under, later}
 use Rattle.storage.proofs.Places.{Rowed}
