@@ -73,11 +73,26 @@ static uint32_t chance(uint32_t below)
     return (uint32_t)(state >> 32) % below;
 }
 
+/* How many of the calls on made-up rows answered a slot of a table. */
+static size_t in_tables;
+
 /* A refusal is 10 or 12 and beside it stands nothing; what is answered lies in the message. */
 static void fits(struct tanklefrost_place a, size_t length)
 {
     CHECK(a.number == 0 || a.number == TANKLEFROST_NOT_THERE || a.number == TANKLEFROST_ROWS_DONT_FIT);
     CHECK(a.number == 0 ? a.first <= length && a.width <= length - a.first : a.first == 0 && a.width == 0);
+}
+
+/* The rows of a table, with up to three words changed. */
+static void changed_rows(uint8_t *bytes, uint32_t *words, size_t row_words)
+{
+    static const uint8_t table[] = {'[', '$', '{', 'U', 1, 'a', 'U', 'U', 1, 'b', 'S', 'U', 2, '}', '#', 'U', 2, 5, 'x', 'y', 6, 'z', 'w'};
+    size_t i, changes = chance(4);
+    memcpy(bytes, table, sizeof table);
+    CHECK(tanklefrost_read(table, sizeof table, words, row_words).number == 0);
+    for (i = 0; i < changes; i++) {
+        words[chance((uint32_t)row_words)] = chance(2) == 0 ? chance(70) : UINT32_MAX - chance(3);
+    }
 }
 
 static void made_up(int at_end)
@@ -88,6 +103,7 @@ static void made_up(int at_end)
     size_t indexes[2], i, count = chance(3), row = chance(9), leaf = chance(9);
     struct lent l, r, x;
     struct tanklefrost_member m;
+    struct tanklefrost_place p;
 
     for (i = 0; i < sizeof bytes; i++) {
         bytes[i] = (uint8_t)chance(256);
@@ -104,11 +120,19 @@ static void made_up(int at_end)
     for (i = 0; i < 2; i++) {
         indexes[i] = chance(3);
     }
+    if (chance(2) == 0) {
+        changed_rows(bytes, words, sizeof words / sizeof *words);
+        count = 1;
+        row = 0;
+        leaf = 3 + 2 * chance(2);
+    }
     l = lend(bytes, chance(65), at_end);
     r = lend(words, sizeof words, at_end);
     x = lend(indexes, count * sizeof *indexes, at_end);
     fits(tanklefrost_packed_slot((uint32_t *)r.bytes, r.size / 4, (uint32_t)l.size, row, (size_t *)x.bytes, count), l.size);
-    fits(tanklefrost_table_slot((uint32_t *)r.bytes, r.size / 4, (uint32_t)l.size, row, leaf, (size_t *)x.bytes, count), l.size);
+    p = tanklefrost_table_slot((uint32_t *)r.bytes, r.size / 4, (uint32_t)l.size, row, leaf, (size_t *)x.bytes, count);
+    fits(p, l.size);
+    in_tables += p.number == 0;
     fits(tanklefrost_text_at_row(l.bytes, l.size, (uint32_t *)r.bytes, r.size / 4, row), l.size);
     fits(tanklefrost_text_in_table(l.bytes, l.size, (uint32_t *)r.bytes, r.size / 4, row, leaf, (size_t *)x.bytes, count), l.size);
     m = tanklefrost_lookup(l.bytes, l.size, (uint32_t *)r.bytes, r.size / 4, row, l.bytes, l.size / 16);
@@ -134,5 +158,6 @@ int main(void)
     for (i = 0; i < 5000; i++) {
         made_up(i % 2);
     }
+    CHECK(in_tables >= 500 && in_tables <= 2500);
     return report("extremes");
 }
