@@ -1,5 +1,5 @@
-/* Rewriting to house form: an example of document 01, no room, NULL with length 0, and every accepted message of tests/c/panel.txt
- * rewritten twice, which changes nothing the second time. */
+/* Rewriting to house form: an example of document 01, no room, the lines of crates/house, and every accepted message of
+ * tests/c/panel.txt rewritten twice, which changes nothing the second time. */
 #include "lent.h"
 #include "tanklefrost.h"
 
@@ -12,10 +12,11 @@ static size_t left_over(const struct lent *l, size_t from)
     return n;
 }
 
-/* With rows enough and so many bytes of room: the answer, the rows as the reader leaves them, and zeros after what was written. */
-static struct tanklefrost_reading rewrite(const uint8_t *message, size_t length, size_t output_room, int at_end, uint8_t *written)
+/* With so many rows and bytes of room lent: the answer, the rows as the reader leaves them, and zeros after what was written. */
+static struct tanklefrost_reading rewrite_in(
+    const uint8_t *message, size_t length, size_t lent_rows, size_t output_room, int at_end, uint8_t *written)
 {
-    size_t words = length * TANKLEFROST_ROW_WORDS;
+    size_t words = lent_rows * TANKLEFROST_ROW_WORDS;
     struct lent l = lend(message, length, at_end), rows = lend(NULL, words * sizeof(uint32_t), at_end), output = lend(NULL, output_room, at_end);
     struct lent same = lend(NULL, words * sizeof(uint32_t), at_end);
     struct tanklefrost_reading a = tanklefrost_rewrite(l.bytes, l.size, (uint32_t *)rows.bytes, words, output.bytes, output.size);
@@ -40,6 +41,47 @@ static struct tanklefrost_reading rewrite(const uint8_t *message, size_t length,
     return a;
 }
 
+/* With rows enough. */
+static struct tanklefrost_reading rewrite(const uint8_t *message, size_t length, size_t output_room, int at_end, uint8_t *written)
+{
+    return rewrite_in(message, length, length, output_room, at_end, written);
+}
+
+/* The lines of crates/house: number, place, bytes written, and the house form. */
+static void stored_lines(void)
+{
+    static char line[1 << 20], expected[1 << 20];
+    static uint8_t written[TANKLEFROST_LIMIT];
+    struct bytes m = {NULL, 0, 0}, house = {NULL, 0, 0};
+    FILE *in = file_of("crates/house/stdin"), *out = file_of("crates/house/stdout");
+    size_t lines = 0;
+
+    while (fgets(line, sizeof line, in) != NULL && fgets(expected, sizeof expected, out) != NULL) {
+        char *rest = line, *answer = expected, *w = word(&rest);
+        size_t lent_rows = strtoul(w, NULL, 10), room = strtoul(word(&rest), NULL, 10);
+        uint32_t number = (uint32_t)strtoul(word(&answer), NULL, 10);
+        size_t place = strtoul(word(&answer), NULL, 10), amount = strtoul(word(&answer), NULL, 10);
+        struct tanklefrost_reading a;
+        m.size = 0;
+        house.size = 0;
+        while ((w = word(&rest)) != NULL) {
+            put_hex(&m, w);
+        }
+        while ((w = word(&answer)) != NULL) {
+            put_hex(&house, w);
+        }
+        a = rewrite_in(m.at, m.size, lent_rows, room, lines % 2 == 0, written);
+        CHECK(a.number == number && a.place == place && a.amount == amount && house.size == amount);
+        CHECK(a.amount == 0 || (house.size == a.amount && memcmp(written, house.at, a.amount) == 0));
+        lines++;
+    }
+    CHECK(lines > 2000 && feof(in));
+    fclose(in);
+    fclose(out);
+    free(m.at);
+    free(house.at);
+}
+
 int main(void)
 {
     static char line[1 << 16];
@@ -54,6 +96,7 @@ int main(void)
     CHECK(a.number == 0 && a.place == 0 && a.amount == 4 && memcmp(once, house, 4) == 0);
     a = rewrite((const uint8_t *)"[]", 2, 3, 1, once);
     CHECK(a.number == TANKLEFROST_OUTPUT_TOO_LONG && a.place == 0 && a.amount == 0);
+    stored_lines();
 
     while (fgets(line, sizeof line, f) != NULL) {
         char *rest = line, *call = word(&rest);
