@@ -41,6 +41,12 @@ fn input(asked: Asked, message: &mut [u8], rows: &mut [u32], house: &mut [u8], o
     );
 }
 
+// Whether a descriptor can be read from; a directory's can't.
+fn is_readable(fd: i32) -> bool {
+    let mut nothing = [0u8; 0];
+    0 <= libc::read(fd, &mut nothing)
+}
+
 // The file of this name.
 fn named(
     name: &[u8],
@@ -57,6 +63,11 @@ fn named(
     let fd = os::open_read(name);
     if fd < 0 {
         os::fail(name);
+        return;
+    }
+    if !is_readable(fd) {
+        os::fail(name);
+        libc::close(fd);
         return;
     }
     message_of(name, fd, asked, message, rows, house, out);

@@ -25,6 +25,10 @@ use show::scalars::valued;
 // The slots of one packed array or table that are shown. Only slots of no bytes can be more.
 const SLOTS: usize = 1_048_576;
 
+// The steps that are gone for one packed array or table, where a slot takes as many as there are leaves. A table of up to 4,096
+// leaves never takes more, if its slots have bytes.
+const STEPS: usize = 4_294_967_296;
+
 // Index j; 0 where there is none.
 fn index(indexes: &[usize], j: usize) -> usize {
     if j < indexes.len() {
@@ -211,10 +215,12 @@ pub fn value_slots(
 
 // How many elements or records are shown.
 fn shown(rows: &[u32], row: usize) -> usize {
-    least(
-        word(rows, row, 5),
-        quotient(SLOTS, shape::leaves(rows, row)),
-    )
+    let leaves = shape::leaves(rows, row);
+    let room = least(
+        quotient(SLOTS, leaves),
+        quotient(quotient(STEPS, leaves), leaves),
+    );
+    least(word(rows, row, 5), room)
 }
 
 // One value for each element or record.

@@ -1,6 +1,5 @@
 // A block of output. Each function puts something at a place of the block and answers the place after it; a full block is written out.
 use grid::numbers::least;
-use grid::numbers::less;
 use libc::STDOUT_FILENO;
 
 // Writes out what stands before a place.
@@ -53,12 +52,6 @@ pub fn repeated(out: &mut [u8], at: usize, b: u8, times: usize) -> usize {
 // So many spaces.
 pub fn spaces(out: &mut [u8], at: usize, times: usize) -> usize {
     repeated(out, at, b' ', times)
-}
-
-// Bytes as they are, and spaces up to a width.
-pub fn left(out: &mut [u8], at: usize, s: &[u8], width: usize) -> usize {
-    let next = text(out, at, s);
-    spaces(out, next, less(width, s.len()))
 }
 
 // The end of a line.
