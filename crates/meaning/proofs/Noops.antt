@@ -1,5 +1,6 @@
 -- A message in house form has no `N`: it is its tokens as they are written, one after another and nothing between, before or after; what
--- an array or object holds is written so too; and no token begins with `N`. Assumes nothing.
+-- an array or object holds is written so too; no token begins with `N`; and each is its mark, its integers and its payload alone.
+-- Assumes nothing.
 use Prim.Native.Nat.{ℕ, _+_, _^_}
 use mathlib.Core.Path.{_≡_, refl, sym, ap, _∙_}
 use mathlib.Core.Bool.{Bool, true, false, not, true≢false}
@@ -8,11 +9,11 @@ use native.Mathlib.Omega.{arith}
 use lib.ListN.{drop}
 use lib.Dec.{ltb, eqb}
 use Rattle.format.specs.Conditions.{if_then_else_, among, all}
-use Rattle.format.specs.Marks.{Opening, bracket, brace, opens, width, integers, types, isType, isScalar, isPlainLeaf, 'F', 'H', 'N', 'S', 'T', 'U', 'Z', 'm', 'u', '#', '[', left-brace}
+use Rattle.format.specs.Marks.{Opening, bracket, brace, opens, width, integers, types, isType, isScalar, isPlainLeaf, 'F', 'H', 'N', 'S', 'T', 'U', 'Z', 'm', 'u', '#', '$', '[', left-brace}
 use Rattle.format.specs.Tokens.{Kind, scalar, text, highPrecision, key, array, object, packed, table, leaf, schemaRecord, fixedArray, dimension, Token, isKind, Forest, none, node, _⊕_}
 use Rattle.format.specs.Records.{atOffset, placed}
 use Rattle.format.specs.Integers.{smallest}
-use Rattle.format.specs.HouseForm.{smallInteger, tableForm, whole, token, written, house}
+use Rattle.format.specs.HouseForm.{smallInteger, shape, tableForm, whole, payloadOf, token, written, house}
 use Rattle.format.specs.Schemas as Schemas
 use Rattle.format.specs.Containers as Containers
 use Rattle.format.proofs.MarkFacts.{among-passes}
@@ -168,3 +169,39 @@ module _ (h : List ℕ) (rowsLent : ℕ) (s : InHouseForm h rowsLent) where
     -- No token begins with `N`.
     pub no-noop : NoNoop h t below
     no-noop = token-begins h t below (own-at (accepted-marked (of-done (s .tokens) (read-finds h rowsLent) (s .accepted) .1)) a)
+
+    -- And its bytes are these alone: no `N` stands behind them either.
+    exactly : (kind : Kind) → t .kind ≡ kind → token h (t .kind) t (written h below) ≡ token h kind t (written h below)
+    exactly kind e = ap (λ x. token h x t (written h below)) e
+
+    pub scalar-exact : t .kind ≡ scalar → token h (t .kind) t (written h below) ≡ t .mark ∷ payloadOf h t
+    unfolding token
+    scalar-exact e = exactly scalar e
+
+    pub text-exact : t .kind ≡ text → token h (t .kind) t (written h below) ≡ t .mark ∷ smallInteger (t .extent) ++ payloadOf h t
+    unfolding token
+    text-exact e = exactly text e
+
+    pub number-exact : t .kind ≡ highPrecision → token h (t .kind) t (written h below) ≡ t .mark ∷ smallInteger (t .extent) ++ payloadOf h t
+    unfolding token
+    number-exact e = exactly highPrecision e
+
+    pub key-exact : t .kind ≡ key → token h (t .kind) t (written h below) ≡ smallInteger (t .extent) ++ payloadOf h t
+    unfolding token
+    key-exact e = exactly key e
+
+    pub list-exact : (o : Opening) → t .kind ≡ Containers.containerKind o
+        → token h (t .kind) t (written h below) ≡ opens o ∷ '#' ∷ smallInteger (t .count) ++ endToEnd h (sideBySide below)
+    unfolding token opens house Containers.containerKind
+    list-exact bracket e = exactly array e ∙ ap (λ x. opens bracket ∷ '#' ∷ smallInteger (t .count) ++ x) (house-end-to-end h below)
+    list-exact brace e = exactly object e ∙ ap (λ x. opens brace ∷ '#' ∷ smallInteger (t .count) ++ x) (house-end-to-end h below)
+
+    pub packed-exact : t .kind ≡ packed
+        → token h (t .kind) t (written h below) ≡ opens bracket ∷ '$' ∷ t .mark ∷ '#' ∷ shape (t .order) (t .count) (house h below) ++ payloadOf h t
+    unfolding token house
+    packed-exact e = exactly packed e
+
+    pub table-exact : t .kind ≡ table
+        → token h (t .kind) t (written h below) ≡ tableForm (t .mark) (written h below .first) (shape (t .order) (t .count) (written h below .rest)) (payloadOf h t)
+    unfolding token
+    table-exact e = exactly table e
