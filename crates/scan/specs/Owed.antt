@@ -1,15 +1,13 @@
--- How many bytes 80-BF text owes, as a number: 4 where a byte can't stand.
-use Prim.Native.Nat.{ℕ, zero, suc}
+-- Text by shape, seen from each byte and the three before it.
+use Prim.Native.Nat.{ℕ}
+use mathlib.Core.Bool.{Bool, _&&_, _||_, Bool·beq}
 use lib.Dec.{leb}
-use Rattle.format.specs.Conditions.{if_then_else_, between}
+use Rattle.format.specs.Conditions.{between}
 
-unfoldable pub owedAfterLead : ℕ → ℕ
-owedAfterLead b =
-    if leb b 0x7F then 0 else
-    if between 0xC0 0xDF b then 1 else
-    if between 0xE0 0xEF b then 2 else
-    if between 0xF0 0xF7 b then 3 else 4
+-- after the bytes a, b and c a byte 80-BF is owed
+unfoldable pub isOwed : ℕ → ℕ → ℕ → Bool
+isOwed a b c = (leb 0xC0 c || leb 0xE0 b) || leb 0xF0 a
 
-unfoldable pub owedAfter : ℕ → ℕ → ℕ
-owedAfter zero b = owedAfterLead b
-owedAfter (suc owed) b = if between 0x80 0xBF b then owed else 4
+-- after them x can stand: 80-BF where one is owed, 00-7F or C0-F7 where none is
+unfoldable pub canStand : ℕ → ℕ → ℕ → ℕ → Bool
+canStand a b c x = leb x 0xF7 && Bool·beq (isOwed a b c) (between 0x80 0xBF x)

@@ -12,18 +12,17 @@ ghost use Rattle.format.specs.Conditions.{all};
 ghost use Rattle.format.specs.Marks.{isBoolean};
 ghost use Rattle.format.specs.Content.{isContent};
 
-// Whether every byte is a char, at most 127.
-fn are_chars(bytes: &[u8]) -> bool
+// Whether every byte is a char, at most 127. The loop has no branch and no early end, so that it takes many bytes at a time.
+pub fn are_chars(bytes: &[u8]) -> bool
     ensures { λ r. ⌜ r ≡ all (λ b. leb b 127) (now (bytes .entry)) ⌝ }
 {
+    let mut chars = true;
     let mut i = 0;
     while i < bytes.len() {
-        if 127 < bytes[i] {
-            return false;
-        }
+        chars = chars & (bytes[i] <= 127);
         i += 1;
     }
-    true
+    chars
 }
 
 fn is_boolean(b: u8) -> bool

@@ -1,58 +1,42 @@
 // Text: UTF-8 by shape.
+use crate::content::are_chars;
 ghost use mathlib.Core.Path.{_≡_};
 ghost use Rattle.format.specs.Text.{isText};
-ghost use Rattle.scan.specs.Owed.{owedAfterLead, owedAfter};
+ghost use Rattle.scan.specs.Owed.{isOwed, canStand};
 
-// How many bytes 80-BF a lead byte owes; 4 where the byte leads nothing.
-fn owed_after_lead(b: u8) -> u8
-    ensures { λ r. ⌜ r ≡ owedAfterLead b ⌝ }
+// Whether a byte 80-BF is owed after the bytes a, b and c.
+fn is_owed(a: u8, b: u8, c: u8) -> bool
+    ensures { λ r. ⌜ r ≡ isOwed a b c ⌝ }
 {
-    if b < 0x80 {
-        return 0;
-    }
-    if b < 0xC0 {
-        return 4;
-    }
-    if b < 0xE0 {
-        return 1;
-    }
-    if b < 0xF0 {
-        return 2;
-    }
-    if b < 0xF8 {
-        return 3;
-    }
-    4
+    (0xC0 <= c) | (0xE0 <= b) | (0xF0 <= a)
 }
 
-// How many bytes 80-BF are owed after one more byte; 4 where it can't stand there.
-fn owed_after(owed: u8, b: u8) -> u8
-    ensures { λ r. ⌜ r ≡ owedAfter owed b ⌝ }
+// Whether x can stand after the bytes a, b and c: 80-BF where one is owed, 00-7F or C0-F7 where none is.
+fn can_stand(a: u8, b: u8, c: u8, x: u8) -> bool
+    ensures { λ r. ⌜ r ≡ canStand a b c x ⌝ }
 {
-    if owed == 0 {
-        return owed_after_lead(b);
-    }
-    if b < 0x80 {
-        return 4;
-    }
-    if 0xBF < b {
-        return 4;
-    }
-    owed - 1
+    (x <= 0xF7) & (is_owed(a, b, c) == ((0x80 <= x) & (x <= 0xBF)))
 }
 
-// Whether the bytes are text.
+// Whether the bytes are text. The loop has no branch and no early end, so that it takes many bytes at a time.
 pub fn is_text(bytes: &[u8]) -> bool
     ensures { λ r. ⌜ r ≡ isText (now (bytes .entry)) ⌝ }
 {
-    let mut owed = 0;
+    if are_chars(bytes) {
+        return true;
+    }
+    let mut stand = true;
+    let mut a = 0;
+    let mut b = 0;
+    let mut c = 0;
     let mut i = 0;
     while i < bytes.len() {
-        owed = owed_after(owed, bytes[i]);
-        if owed == 4 {
-            return false;
-        }
+        let x = bytes[i];
+        stand = stand & can_stand(a, b, c, x);
+        a = b;
+        b = c;
+        c = x;
         i += 1;
     }
-    owed == 0
+    stand & !is_owed(a, b, c)
 }

@@ -1,20 +1,20 @@
--- `are_chars`: each byte before the one reached is a char. Assumes nothing.
+-- `are_chars`: each byte before the one reached is a char, if `chars` says so. Assumes nothing.
 use Prim.Native.Nat.{_-_, _≤_}
 use mathlib.Core.Path.{_≡_, refl, sym, _∙_}
+use mathlib.Core.Bool.{_&&_, and-true, and-assoc}
 use native.Mathlib.Omega.{arith}
 use lib.ListN.{length, drop}
 use lib.Dec.{leb}
-use borrow.Author.Tests.{le-leb, lt-leb}
 use Rattle.format.specs.Conditions.{all}
-use Rattle.scan.proofs.All.{all-on, all-off, all-end}
+use Rattle.scan.proofs.All.{all-cons, all-end}
 use Rattle.scan.proofs.content.are_chars.Statement.{statement}
 use Rattle.scan.proofs.content.are_chars.Tie as tie
 
 abbrev Inv-loop : tie.InvT-loop
-Inv-loop bytes i₀ i = (i ≤ length bytes) × (all (λ b. leb b 127) bytes ≡ all (λ b. leb b 127) (drop i bytes))
+Inv-loop bytes chars₀ i₀ chars i = (i ≤ length bytes) × (all (λ b. leb b 127) bytes ≡ (chars && all (λ b. leb b 127) (drop i bytes)))
 
 abbrev μ-loop : tie.MeasureT-loop
-μ-loop bytes i₀ i = length bytes - i
+μ-loop bytes chars₀ i₀ chars i = length bytes - i
 
 pub are-chars-spec : {M : Type 1} → statement M
 are-chars-spec =
@@ -23,9 +23,8 @@ are-chars-spec =
     Inv-loop
     μ-loop
     (λ c. (omega arith, refl))
-    (λ c. c .before .loop-test .taken)
-    (λ c. sym (c .before .before .before .loop .inv .1 ∙ all-off _ _ _ (c .before .before .loop-test .taken) (lt-leb _ _ (c .if1 .taken))))
     (λ c. omega arith)
     (λ c. omega arith)
-    (λ c. (omega arith, c .before .before .before .loop .inv .1 ∙ all-on _ _ _ (c .before .before .loop-test .taken) (le-leb _ _ (c .if1 .left))))
-    (λ c. sym (c .before .loop .inv .1 ∙ all-end _ _ _ (c .loop-test .left))))
+    (λ c. omega arith)
+    (λ c. let v = c .before .before .loop .inv in (omega arith, v .1 ∙ rw (all-cons _ _ _ (c .before .loop-test .taken), and-assoc)))
+    (λ c. let v = c .before .loop .inv in sym (v .1 ∙ rw (all-end _ _ _ (c .loop-test .left)) (and-true _))))
