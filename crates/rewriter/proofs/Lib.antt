@@ -3,4 +3,3 @@ pub mod Going
 pub mod Lengths
 pub mod Forms
 pub mod Rewrites
-pub mod Clearing

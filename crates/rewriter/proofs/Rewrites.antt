@@ -21,7 +21,8 @@ use Rattle.storage.proofs.Places.{read-fills, filled-rows, filled-enough}
 use Rattle.meaning.proofs.Accepting.{read-finds}
 use Rattle.writer.specs.Puts.{Puts}
 use Rattle.rewriter.specs.Held.{Held, Room}
-use Rattle.rewriter.specs.Settled.{clearedFrom, fitsIn, Settled, fitting, tooLong}
+use Rattle.rewriter.specs.Settled.{fitsIn, Settled, fitting, tooLong}
+use Rattle.rows.specs.Clearing.{clearedFrom}
 use Rattle.rewriter.proofs.Forms.{accepted-formed}
 
 -- tokens were read, of so many rows

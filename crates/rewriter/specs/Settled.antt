@@ -1,18 +1,15 @@
 -- What is left of output and rows once so many bytes were put.
-use Prim.Native.Nat.{ℕ, _-_}
+use Prim.Native.Nat.{ℕ}
 use mathlib.Core.Path.{_≡_}
 use mathlib.Core.Bool.{Bool, true, false, _&&_}
-use mathlib.Core.List.{List, _++_}
-use lib.ListN.{length, take}
+use mathlib.Core.List.{List}
+use lib.ListN.{length}
 use lib.Dec.{leb}
 use Rattle.format.specs.Outcome.{Outcome, fault, done}
 use Rattle.format.specs.Limits.{limit}
 use Rattle.format.specs.Refusals.{outputTooLong}
 use Rattle.format.specs.Rows.{zeros}
-
--- the bytes before a place, and zeros from there on
-unfoldable pub clearedFrom : List ℕ → ℕ → List ℕ
-clearedFrom l from = take from l ++ zeros (length l - from)
+use Rattle.rows.specs.Clearing.{clearedFrom}
 
 -- so many bytes fit the room, and the limit
 unfoldable pub fitsIn : ℕ → ℕ → Bool

@@ -5,23 +5,14 @@ use format::limits::LIMIT;
 use reader::message::read;
 use rows::clear;
 use rows::clear_bytes;
+use rows::clear_bytes_from;
 ghost use mathlib.Core.Path.{_≡_};
 ghost use lib.ListN.{length};
 ghost use Rattle.format.specs.Rows.{rowsIn};
 ghost use Rattle.format.specs.Read.{readInto};
 ghost use Rattle.format.specs.HouseForm.{rewrite as rewriteOf, bytesWritten, outputAfter, rewriteWordsAfter};
 ghost use Rattle.format.specs.Answers.{answered};
-ghost use Rattle.rewriter.specs.Settled.{clearedFrom, fitsIn, Settled};
-
-// Zeros the bytes from a place on.
-fn clear_from(output: &mut [u8], from: usize)
-    ensures { λ _. ⌜ now (output .exit) ≡ clearedFrom (now (output .entry)) from ⌝ }
-{
-    if output.len() <= from {
-        return;
-    }
-    clear_bytes(&mut output[from..]);
-}
+ghost use Rattle.rewriter.specs.Settled.{fitsIn, Settled};
 
 // Whether so many bytes fit the room, and the limit.
 fn fits(n: usize, room: usize) -> bool
@@ -38,11 +29,11 @@ fn settle(rows: &mut [u32], output: &mut [u8], end: usize) -> Answer
     ensures { λ r. ⌜ Settled end (now (rows .entry)) (now (output .entry)) (answered r) (now (rows .exit)) (now (output .exit)) ⌝ }
 {
     if fits(end, output.len()) {
-        clear_from(output, end);
+        clear_bytes_from(output, end);
         return Answer::Done(end);
     }
     clear(rows);
-    clear_from(output, 0);
+    clear_bytes_from(output, 0);
     Answer::Refused(11, 0)
 }
 

@@ -1,4 +1,4 @@
--- Rows stored one after another: in any order, one run after another, and over zeros. Assumes nothing.
+-- Rows stored one after another: in any order, one run after another, and then zeros. Assumes nothing.
 use mathlib.Core.Path.{_≡_, refl, sym, ap, _∙_}
 use mathlib.Core.Bool.{Bool, true, false}
 use mathlib.Core.List.{List, [], _∷_, _++_}
@@ -6,12 +6,13 @@ use Prim.Native.Nat.{ℕ, zero, suc, _+_, _-_, _*_, _/_, _<_, _≤_}
 use native.Mathlib.Omega.{arith}
 use native.Mathlib.Nat.{zero-add, sub-zero, zero-sub, suc-sub-suc}
 use lib.ListN.{length, set, drop, length-replicate}
-use lib.Seq.{sets, set-comm, length-sets, sets-eq}
+use lib.Seq.{sets, set-comm, length-sets, sets-eq, take-append-seam}
 use lib.Dec.{ltb}
 use borrow.Author.Tests.{lt-ltb}
 use Rattle.format.specs.Conditions.{if_then_else_}
 use Rattle.format.specs.Rows.{Row, layout, rowsIn, wordsOf, zeros, filled}
 use Rattle.format.proofs.RowWords.{length-layout, length-words}
+use Rattle.rows.specs.Clearing.{clearedFrom}
 use Rattle.rows.specs.Row.{store}
 use Rattle.rows.specs.Overlay.{lay}
 
@@ -100,21 +101,11 @@ lay-there ws i (r ∷ rs) h =
     ∙ ap (λ k. sets (sets ws (i * 8) (layout r)) k (wordsOf rs)) (omega (arith, length-layout r))
     ∙ sets-append (layout r) (wordsOf rs) ws (i * 8)
 
-drop-zeros : (n l : ℕ) → drop n (zeros l) ≡ zeros (l - n)
-drop-zeros zero l = ap (λ k. zeros k) (sym (sub-zero l))
-drop-zeros (suc n) zero = ap (λ k. zeros k) (sym (zero-sub (suc n)))
-drop-zeros (suc n) (suc l) = drop-zeros n l ∙ ap (λ k. zeros k) (sym (suc-sub-suc l n))
-
--- numbers stored over zeros are what is filled
-pub sets-zeros : (n : ℕ) (l : List ℕ) → length l ≤ n → sets (zeros n) 0 l ≡ filled n l
-unfolding filled
-sets-zeros n l h =
-    let z = length-replicate {A = ℕ} n 0 in
-    sets-eq l (zeros n) 0 (omega arith) ∙ ap (λ t. l ++ t) (ap (λ k. drop k (zeros n)) (zero-add (length l)) ∙ drop-zeros (length l) n)
-
--- and so are the words of rows
-pub lay-zeros : (n : ℕ) (rs : List Row) → length rs * 8 ≤ n → lay (zeros n) 0 rs ≡ filled n (wordsOf rs)
-lay-zeros n rs h =
+-- what is laid from the first row on, and zeros after it
+pub lay-cleared : (ws : List ℕ) (rs : List Row) → length rs * 8 ≤ length ws → clearedFrom (lay ws 0 rs) (length rs * 8) ≡ filled (length ws) (wordsOf rs)
+unfolding clearedFrom filled
+lay-cleared ws rs h =
     let w = length-words rs in
-    let z = length-replicate {A = ℕ} n 0 in
-    lay-there (zeros n) 0 rs (omega arith) ∙ sets-zeros n (wordsOf rs) (omega arith)
+    let e : length rs * 8 ≡ length (wordsOf rs) = omega arith in
+    let l : lay ws 0 rs ≡ wordsOf rs ++ drop (length (wordsOf rs)) ws = lay-there ws 0 rs (omega arith) ∙ sets-eq (wordsOf rs) ws 0 (omega arith) ∙ ap (λ k. wordsOf rs ++ drop k ws) (zero-add (length (wordsOf rs))) in
+    rw (length-lay ws 0 rs, l, e) (ap (λ t. t ++ zeros (length ws - length (wordsOf rs))) (take-append-seam (wordsOf rs) (drop (length (wordsOf rs)) ws)))

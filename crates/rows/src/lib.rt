@@ -3,6 +3,7 @@ ghost use mathlib.Core.Path.{_≡_};
 ghost use Prim.Native.Nat.{_<_, _≤_, _^_};
 ghost use lib.ListN.{length};
 ghost use Rattle.format.specs.Rows.{rowsIn, rowAt, word as wordIn, zeros};
+ghost use Rattle.rows.specs.Clearing.{clearedFrom};
 ghost use Rattle.rows.specs.Row.{rowOf, noRow, store as storeIn};
 
 // A row: its words by name, in their order.
@@ -118,4 +119,24 @@ pub fn clear_bytes(output: &mut [u8])
         output[i] = 0;
         i += 1;
     }
+}
+
+// Zeros the words from one on.
+pub fn clear_from(rows: &mut [u32], from: usize)
+    ensures { λ _. ⌜ now (rows .exit) ≡ clearedFrom (now (rows .entry)) from ⌝ }
+{
+    if rows.len() <= from {
+        return;
+    }
+    clear(&mut rows[from..]);
+}
+
+// Zeros the bytes from one on.
+pub fn clear_bytes_from(output: &mut [u8], from: usize)
+    ensures { λ _. ⌜ now (output .exit) ≡ clearedFrom (now (output .entry)) from ⌝ }
+{
+    if output.len() <= from {
+        return;
+    }
+    clear_bytes(&mut output[from..]);
 }

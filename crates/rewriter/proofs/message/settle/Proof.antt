@@ -2,7 +2,7 @@
 use mathlib.Core.Path.{sym, _∙_}
 use borrow.Author.Needs.{needs}
 use Rattle.rewriter.specs.Settled.{fitting, tooLong}
-use Rattle.rewriter.proofs.Clearing.{cleared-all}
+use Rattle.rows.proofs.Clearing.{cleared-all}
 use Rattle.rewriter.proofs.message.settle.Statement.{statement}
 use Rattle.rewriter.proofs.message.settle.Tie as tie
 
@@ -13,9 +13,9 @@ settle-spec =
     (λ c κs. search needs)
     (λ c κs. search needs)
     (λ c. search needs)
-    (λ c. fitting (sym (c .before .before .before .before .before .fits2 .ensures) ∙ c .before .before .before .before .if1 .taken) (c .before .before .clear-from .ensures))
+    (λ c. fitting (sym (c .before .before .before .before .before .fits2 .ensures) ∙ c .before .before .before .before .if1 .taken) (c .before .before .clear-bytes-from .ensures))
     (λ c κs. search needs)
     (λ c κs. search needs)
     (λ c. search needs)
     (λ c. search needs)
-    (λ c. tooLong (sym (c .before .before .before .before .before .before .before .before .before .fits2 .ensures) ∙ c .before .before .before .before .before .before .before .before .if1 .left) (c .before .before .before .before .before .before .clear .ensures) (c .before .before .clear-from2 .ensures ∙ cleared-all _)))
+    (λ c. tooLong (sym (c .before .before .before .before .before .before .before .before .before .fits2 .ensures) ∙ c .before .before .before .before .before .before .before .before .if1 .left) (c .before .before .before .before .before .before .clear .ensures) (c .before .before .clear-bytes-from2 .ensures ∙ cleared-all _)))
