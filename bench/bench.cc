@@ -67,6 +67,9 @@ static size_t slots(const Bytes &m, size_t used)
     return found;
 }
 
+// The last record's time in a table of rooms, by the call that has no rows.
+static double slotTime(const Bytes &m, uint64_t rooms) { return best([&] { sink = sink + tanklefrost_slot(m.data(), m.size(), 0, 2, rooms - 1); }); }
+
 static double placeTime(const Bytes &m) { return best([&] { sink = sink + tanklefrost_number_and_place(m.data(), m.size()); }); }
 
 // Lends as many rows as the message needs.
@@ -118,6 +121,18 @@ static void growth(size_t size)
         printf("%-30s", names[i].c_str());
         for (double t : times[i]) printf(" %10.2f", t / 1e3);
         printf("   x %.2f\n", times[i][3] / times[i][2]);
+    }
+    printf("\nthe slot of the last record, us, at as many bytes\n");
+    for (bool columns : {false, true}) {
+        double before = 0, now = 0;
+        printf("%-30s", columns ? "table by columns" : "table by rows");
+        for (size_t k = 8; k >= 1; k /= 2) {
+            size_t rooms = (size / k - 64) / 9;
+            before = now;
+            now = slotTime(floorOf(rooms, columns), rooms);
+            printf(" %10.2f", now / 1e3);
+        }
+        printf("   x %.2f\n", now / before);
     }
 }
 

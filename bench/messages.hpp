@@ -23,15 +23,15 @@ inline void put(Bytes &b, const char *s) { while (*s) b.push_back((uint8_t)*s++)
 inline void put(Bytes &b, uint64_t n, int width) { for (int i = 0; i < width; i++) b.push_back((uint8_t)(n >> 8 * i)); }
 inline void key(Bytes &b, const char *s) { put(b, {'U', (int)strlen(s)}); put(b, s); }
 
-// null, booleans and numbers of every width, one after another
-inline Bytes scalars(size_t size)
+// null, booleans and numbers of every width, one after another: in no order, or in the same order again and again
+inline Bytes scalars(size_t size, bool ordered)
 {
     Bytes b{'['};
     Chance c;
     const char marks[] = "ZTFiUIulmLMdDC";
     const int widths[] = {0, 0, 0, 1, 1, 2, 2, 4, 4, 8, 8, 4, 8, 1};
-    while (b.size() + 16 < size) {
-        int k = c.next() % 14;
+    for (uint32_t i = 0; b.size() + 16 < size; i++) {
+        uint32_t k = (ordered ? i : c.next()) % 14;
         b.push_back((uint8_t)marks[k]);
         for (int i = 0; i < widths[k]; i++) b.push_back(c.next() & 0x3F);
     }
@@ -136,7 +136,8 @@ inline std::vector<Message> messages(size_t size)
     return {
         {"floor of 40 rooms by rows", floorOf(40, false)},
         {"floor of 40 rooms by columns", floorOf(40, true)},
-        {"mixed scalars", scalars(size)},
+        {"mixed scalars", scalars(size, false)},
+        {"scalars in one order", scalars(size, true)},
         {"small objects", objects(size)},
         {"short texts", shortTexts(size)},
         {"one ASCII text", text(size, true)},

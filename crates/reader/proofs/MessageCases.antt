@@ -15,10 +15,11 @@ use Rattle.format.specs.Bytes.{skip}
 use Rattle.format.specs.Containers.{items}
 use Rattle.format.specs.Read.{read, rowsUsed, wordsAfter}
 use Rattle.format.proofs.Forests.{length-rows}
-use Rattle.rows.proofs.Overlay.{lay-zeros}
+use Rattle.rows.specs.Clearing.{clearedFrom}
+use Rattle.rows.proofs.Overlay.{lay-cleared}
 use Rattle.tokens.specs.Answers.{Laid}
 use Rattle.reader.specs.Values.{memberOf}
-use Rattle.reader.specs.Message.{Lies}
+use Rattle.reader.specs.Message.{Lies, frontWords}
 
 module _ (m : List ℕ) (lent : ℕ) where
   pub read-long : limit < length m → read m lent ≡ fault messageTooLong 0
@@ -55,11 +56,22 @@ pub refused : (o : Outcome Forest) (n p : ℕ) → o ≡ fault n p → fault n p
 unfolding rowsUsed
 refused o n p e = rw e
 
-pub words-filled : (o : Outcome Forest) (words : ℕ) (after : List ℕ) (row : ℕ) → Lies o (zeros words) after row → row * 8 ≤ words → after ≡ wordsAfter words o
+pub words-filled : (o : Outcome Forest) (before after : List ℕ) (row : ℕ) → Lies o before after row → row * 8 ≤ length before → clearedFrom after (row * 8) ≡ wordsAfter (length before) o
 unfolding wordsAfter allWords allRows
-words-filled o words after row l h =
-    l .lie ∙ lay-zeros words (rows 0 (l .forest)) (omega (arith, length-rows 0 (l .forest), l .took)) ∙ sym (rw (l .read))
+words-filled o before after row l h =
+    let n : row ≡ length (rows 0 (l .forest)) = omega (arith, length-rows 0 (l .forest), l .took) in
+    rw (l .read, l .lie, n) (lay-cleared before (rows 0 (l .forest)) (omega arith))
 
 pub words-zero : (o : Outcome Forest) (words n p : ℕ) → o ≡ fault n p → zeros words ≡ wordsAfter words o
 unfolding wordsAfter
 words-zero o words n p e = rw e
+
+-- ---- the first rows
+
+pub front-filled : (o : Outcome Forest) (words : ℕ) (after : List ℕ) (row : ℕ) → Lies o (zeros words) after row → after ≡ frontWords words o
+unfolding frontWords
+front-filled o words after row l = l .lie ∙ sym (rw (l .read))
+
+pub front-zero : (o : Outcome Forest) (words n p : ℕ) → o ≡ fault n p → zeros words ≡ frontWords words o
+unfolding frontWords
+front-zero o words n p e = rw e

@@ -4,7 +4,7 @@ use mathlib.Core.Path.{_≡_}
 use mathlib.Core.List.{List}
 use Rattle.format.specs.Outcome.{Outcome, fault, done}
 use Rattle.format.specs.Tokens.{Forest, size}
-use Rattle.format.specs.Rows.{allRows}
+use Rattle.format.specs.Rows.{allRows, zeros}
 use Rattle.rows.specs.Overlay.{lay}
 use Rattle.tokens.specs.declared.Step.{Step}
 use Rattle.tokens.specs.declared.Step.the-variants.{Fault, Next}
@@ -23,3 +23,8 @@ WholeMeets (Next next row) o before after = Lies o before after row
 abbrev pub WholeWithin : Step → ℕ → Type 0
 WholeWithin (Fault n p) lent = Unit {0}
 WholeWithin (Next next row) lent = row ≤ lent
+
+-- the words of a table of so many words that holds the first rows alone, as many as it has room for; all zero on refusal
+unfoldable pub frontWords : ℕ → Outcome Forest → List ℕ
+frontWords words (fault n p) = zeros words
+frontWords words (done f) = lay (zeros words) 0 (allRows f)

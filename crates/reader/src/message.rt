@@ -4,15 +4,16 @@ use format::answers::Answer;
 use format::limits::LIMIT;
 use format::limits::VALUE_LEVELS;
 use rows::clear;
+use rows::clear_from;
 use rows::count;
 use scan::noops::skip;
 use tokens::Step;
 ghost use mathlib.Core.Path.{_≡_};
 ghost use lib.ListN.{length};
 ghost use Rattle.format.specs.Read.{read as readOf, readInto, rowsUsed, wordsAfter};
-ghost use Rattle.format.specs.Panel.{rowsNeeded};
+ghost use Rattle.format.specs.Panel.{readWhole, rowsNeeded};
 ghost use Rattle.format.specs.Answers.{answered};
-ghost use Rattle.reader.specs.Message.{WholeMeets, WholeWithin};
+ghost use Rattle.reader.specs.Message.{WholeMeets, WholeWithin, frontWords};
 
 // The message, with so many rows lent, of which those are stored that the table has.
 fn read_core(message: &[u8], rows: &mut [u32], lent: usize) -> Step
@@ -42,13 +43,15 @@ pub fn read(message: &[u8], rows: &mut [u32]) -> Answer
     ensures words { λ _. ⌜ now (rows .exit) ≡ wordsAfter (length (now (rows .entry))) (readInto (now (message .entry)) (now (rows .entry))) ⌝ }
 {
     let lent = count(rows);
-    clear(rows);
     match read_core(message, rows, lent) {
         Step::Fault(n, p) => {
             clear(rows);
             Answer::Refused(n, p)
         }
-        Step::Next(_, row) => Answer::Done(row),
+        Step::Next(_, row) => {
+            clear_from(rows, row * 8);
+            Answer::Done(row)
+        }
     }
 }
 
@@ -59,6 +62,22 @@ pub fn rows_needed(message: &[u8]) -> Answer
     let mut none = [0u32; 0];
     match read_core(message, &mut none, message.len()) {
         Step::Fault(n, p) => Answer::Refused(n, p),
+        Step::Next(_, row) => Answer::Done(row),
+    }
+}
+
+// The rows that a message needs, or a refusal's number and place; the table holds the first of them, as many as it has room for. What
+// isn't filled is zero, on refusal all.
+pub fn read_front(message: &[u8], rows: &mut [u32]) -> Answer
+    ensures answer { λ r. ⌜ answered r ≡ rowsNeeded (now (message .entry)) ⌝ }
+    ensures words { λ _. ⌜ now (rows .exit) ≡ frontWords (length (now (rows .entry))) (readWhole (now (message .entry))) ⌝ }
+{
+    clear(rows);
+    match read_core(message, rows, message.len()) {
+        Step::Fault(n, p) => {
+            clear(rows);
+            Answer::Refused(n, p)
+        }
         Step::Next(_, row) => Answer::Done(row),
     }
 }

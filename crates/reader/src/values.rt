@@ -3,24 +3,32 @@ use crate::items::Item;
 use crate::items::member_start;
 use containers::lists::Listed;
 use containers::lists::close;
+use format::marks::ARRAY;
 use format::marks::COUNT;
+use format::marks::OBJECT;
 use format::marks::TYPE;
 use format::marks::closing_mark;
+use runs::members::several;
+use scan::bytes::stands;
 use scan::integers::Parsed;
 use scan::integers::integer;
 use scan::noops::skip;
 use tokens::Step;
 use typed::container::typed;
+ghost use mathlib.Core.Path.{_≡_};
+ghost use mathlib.Core.Bool.{true};
 ghost use Prim.Native.Nat.{ℕ, _+_, _-_, _≤_, _<_};
-ghost use lib.ListN.{length};
+ghost use lib.ListN.{length, getD};
+ghost use lib.Dec.{eqb};
 ghost use Rattle.format.specs.Limits.{limit};
-ghost use Rattle.format.specs.Marks.{openingOf, closes};
+ghost use Rattle.format.specs.Marks.{openingOf, opens, closes, left-brace};
 ghost use Rattle.format.specs.Bytes.{skip as skipIn};
 ghost use Rattle.format.specs.Sequences.{spaced, repeat, until};
 ghost use Rattle.format.specs.Read.{nested};
 ghost use Rattle.tokens.specs.Answers.{Meets, Here, Within};
 ghost use Rattle.containers.specs.Lists.{ListMeets, ListWithin};
-ghost use Rattle.reader.specs.Values.{HeaderMeets, HeaderWithin, memberOf};
+ghost use Rattle.runs.specs.Runs.{Begins};
+ghost use Rattle.reader.specs.Values.{HeaderMeets, HeaderWithin, memberOf, FollowingMeets, FollowingWithin, OpensPlain, Small, EachByte, oneOf, plusOf};
 
 // What follows an opening mark: a refusal; `$`; `#` and a count, and where the first member may begin; or neither.
 pub enum Header {
@@ -81,6 +89,77 @@ pub fn member(
     }
 }
 
+// An opening mark.
+fn is_opening(b: u8) -> bool
+    ensures { λ r. ⌜ (r ≡ true → b ≡ opens (openingOf (eqb b left-brace))) ⌝ }
+{
+    if b == ARRAY {
+        return true;
+    }
+    b == OBJECT
+}
+
+// Whether a plain container opens at `at` in an array, with a level and a row left.
+fn opens_plain(
+    message: &[u8],
+    lent: usize,
+    levels: usize,
+    brace: bool,
+    at: usize,
+    row: usize,
+) -> bool
+    requires { ⌜ at < length (now message) ⌝ }
+    ensures { λ r. ⌜ (r ≡ true → OpensPlain (now (message .entry)) lent levels (openingOf brace) (openingOf (eqb (getD (now (message .entry)) at 0) left-brace)) at row) ⌝ }
+{
+    if brace {
+        return false;
+    }
+    if !is_opening(message[at]) {
+        return false;
+    }
+    if levels == 0 {
+        return false;
+    }
+    if lent <= row {
+        return false;
+    }
+    if message.len() - at < 2 {
+        return false;
+    }
+    let b = message[at + 1];
+    if b == TYPE {
+        return false;
+    }
+    if b == COUNT {
+        return false;
+    }
+    true
+}
+
+// One member.
+fn one(s: Step) -> Listed
+    ensures { λ r. ⌜ r ≡ oneOf s ⌝ }
+{
+    match s {
+        Step::Fault(n, p) => Listed::Fault(n, p),
+        Step::Next(next, row) => Listed::Next(next, row, 1),
+    }
+}
+
+// So many members, and these after them.
+fn plus(count: usize, list: Listed) -> Listed
+    requires { ⌜ Small count list ⌝ }
+    ensures { λ r. ⌜ r ≡ plusOf count list ⌝ }
+{
+    match list {
+        Listed::Fault(n, p) => Listed::Fault(n, p),
+        Listed::Next(next, row, more) => {
+            let all = count + more;
+            Listed::Next(next, row, all)
+        }
+    }
+}
+
 // n members, from `start` and `first` on.
 pub fn counted(
     message: &[u8],
@@ -100,19 +179,55 @@ pub fn counted(
     let mut row = first;
     let mut count = 0;
     while count < n {
-        let here = skip(message, at);
-        match member(message, rows, lent, levels, brace, here, row) {
-            Step::Fault(number, place) => {
-                return Listed::Fault(number, place);
-            }
-            Step::Next(next, after) => {
-                at = next;
-                row = after;
-                count += 1;
+        let most = n - count;
+        let run = several(message, rows, lent, brace, most, at, row);
+        if 0 < run.count {
+            at = run.at;
+            row = run.row;
+            count += run.count;
+        } else {
+            let here = skip(message, at);
+            match member(message, rows, lent, levels, brace, here, row) {
+                Step::Fault(number, place) => {
+                    return Listed::Fault(number, place);
+                }
+                Step::Next(next, after) => {
+                    at = next;
+                    row = after;
+                    count += 1;
+                }
             }
         }
     }
     Listed::Next(at, row, count)
+}
+
+// The member at `at`, or it and those of its sort after it.
+fn following(
+    message: &[u8],
+    rows: &mut [u32],
+    lent: usize,
+    levels: usize,
+    brace: bool,
+    at: usize,
+    row: usize,
+) -> Listed
+    requires { ⌜ Here (now message) lent at row × Begins (now message) (closes (openingOf brace)) at ⌝ }
+    ensures meets { λ r. ⌜ FollowingMeets r (now (message .entry)) (closes (openingOf brace)) (memberOf (now (message .entry)) lent levels (openingOf brace)) at row (now (rows .entry)) (now (rows .exit)) ⌝ }
+    ensures bounds { λ r. ⌜ FollowingWithin r at (length (now (message .entry))) lent ⌝ }
+{
+    if opens_plain(message, lent, levels, brace, at, row) {
+        let inner = message[at] == OBJECT;
+        let start = at + 1;
+        let below = row + 1;
+        let list = held(message, rows, lent, levels - 1, inner, start, below);
+        return one(close(rows, inner, at, row, start, 1, list));
+    }
+    let run = several(message, rows, lent, brace, message.len(), at, row);
+    if 0 < run.count {
+        return Listed::Next(run.at, run.row, run.count);
+    }
+    one(member(message, rows, lent, levels, brace, at, row))
 }
 
 // Members up to the closing mark, from `start` and `first` on.
@@ -128,6 +243,7 @@ pub fn plain(
     requires { ⌜ Here (now message) lent start first ⌝ }
     ensures meets { λ r. ⌜ ((fuel : ℕ) → length (now (message .entry)) ≤ start + fuel → ListMeets r (until (now (message .entry)) fuel (skipIn (now (message .entry))) (closes (openingOf brace)) (memberOf (now (message .entry)) lent levels (openingOf brace)) start first) first (now (rows .entry)) (now (rows .exit))) ⌝ }
     ensures bounds { λ r. ⌜ ListWithin r start (length (now (message .entry)) - 1) lent ⌝ }
+    ensures few { λ r. ⌜ EachByte r start ⌝ }
 {
     let end = message.len();
     let closing = closing_mark(brace);
@@ -142,17 +258,44 @@ pub fn plain(
         if message[here] == closing {
             return Listed::Next(here, row, count);
         }
-        match member(message, rows, lent, levels, brace, here, row) {
-            Step::Fault(number, place) => {
+        match following(message, rows, lent, levels, brace, here, row) {
+            Listed::Fault(number, place) => {
                 return Listed::Fault(number, place);
             }
-            Step::Next(next, after) => {
+            Listed::Next(next, after, more) => {
                 at = next;
                 row = after;
-                count += 1;
+                count += more;
             }
         }
     }
+}
+
+// The same, where most have members of one sort only: these are read first.
+fn held(
+    message: &[u8],
+    rows: &mut [u32],
+    lent: usize,
+    levels: usize,
+    brace: bool,
+    start: usize,
+    first: usize,
+) -> Listed
+    requires { ⌜ Here (now message) lent start first ⌝ }
+    ensures meets { λ r. ⌜ ((fuel : ℕ) → length (now (message .entry)) ≤ start + fuel → ListMeets r (until (now (message .entry)) fuel (skipIn (now (message .entry))) (closes (openingOf brace)) (memberOf (now (message .entry)) lent levels (openingOf brace)) start first) first (now (rows .entry)) (now (rows .exit))) ⌝ }
+    ensures bounds { λ r. ⌜ ListWithin r start (length (now (message .entry)) - 1) lent ⌝ }
+    ensures few { λ r. ⌜ EachByte r start ⌝ }
+{
+    let end = message.len();
+    let run = several(message, rows, lent, brace, end, start, first);
+    let at = run.at;
+    let row = run.row;
+    let count = run.count;
+    if stands(message, at, closing_mark(brace)) {
+        return Listed::Next(at, row, count);
+    }
+    let list = plain(message, rows, lent, levels, brace, at, row);
+    plus(count, list)
 }
 
 // The container at `at`, with so many levels left.

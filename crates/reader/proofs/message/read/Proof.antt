@@ -1,4 +1,4 @@
--- `read`: the words are cleared, filled, and on refusal cleared again. Assumes nothing.
+-- `read`: the rows are stored, and the words after them cleared; on refusal all are. Assumes nothing.
 use mathlib.Core.Path.{_≡_, _∙_}
 use native.Mathlib.Omega.{arith}
 use borrow.Author.Needs.{needs}
@@ -10,51 +10,46 @@ use Rattle.reader.proofs.message.read.Statement.{statement}
 use Rattle.reader.proofs.message.read.Tie as tie
 
 count-requires : tie.Need-count-requires
-count-requires c κs =
-    search needs
-
-clear-requires : tie.Need-clear-requires
-clear-requires c κs =
-    search needs
+count-requires c κs = search needs
 
 read-core-requires : tie.Need-read-core-requires
-read-core-requires c κs =
-    search needs
+read-core-requires c κs = search needs
 
 enum-known-n : tie.Need-enum-known-n
-enum-known-n c =
-    search needs
+enum-known-n c = search needs
 
-clear-requires-2 : tie.Need-clear-requires-2
-clear-requires-2 c κs =
-    search needs
+clear-requires : tie.Need-clear-requires
+clear-requires c κs = search needs
 
 enum-known-row : tie.Need-enum-known-row
-enum-known-row c =
-    search needs
+enum-known-row c = search needs
+
+mul-clear-from : tie.Need-mul-clear-from
+unfolding rowsIn
+mul-clear-from c = let w = rw (c .before .before .row .given .1) at (c .before .before .before .before .before .before .read-core .ensures .1) in omega (arith, c .before .before .before .before .before .before .before .before .count .ensures, c .before .before .before .before .before .before .before .before .before .before .before .before .good .1)
+
+clear-from-requires : tie.Need-clear-from-requires
+clear-from-requires c κs = search needs
 
 same-length : tie.Need-same-length
-same-length c =
-    omega arith
+same-length c = omega arith
 
 returns : tie.Need-returns
 unfolding readInto
 returns c =
-    let e = rw (c .before .before .before .before .before .n .given .1) at (c .before .before .before .before .before .before .before .before .before .read-core .ensures .0) in
-    let q = rw (c .before .before .before .before .before .before .before .before .before .before .before .before .before .before .before .count .ensures) at e in
-    let k : length (c .before .before .before .before .before .before .before .before .before .read-core .last .1 .0) ≡ length (c .before .before .before .before .before .before .before .before .before .before .before .before .before .before .before .before .before .before .before .args .rows .now) = omega arith in
-    (refused _ _ _ q, c .before .before .clear2 .ensures ∙ rw k (words-zero _ _ _ _ q))
+    let q = rw (c .before .before .before .before .before .before .before .before .before .before .before .count .ensures) at (rw (c .before .before .before .before .before .n .given .1) at (c .before .before .before .before .before .before .before .before .before .read-core .ensures .0)) in
+    let k : length (c .before .before .before .before .before .before .before .before .before .read-core .last .1 .0) ≡ length (c .before .before .before .before .before .before .before .before .before .before .before .before .before .before .before .args .rows .now) = omega arith in
+    (refused _ _ _ q, c .before .before .clear .ensures ∙ rw k (words-zero _ _ _ _ q))
 
 same-length-2 : tie.Need-same-length-2
-same-length-2 c =
-    omega arith
+same-length-2 c = omega arith
 
 returns-2 : tie.Need-returns-2
 unfolding readInto rowsIn
 returns-2 c =
-    let l = rw (c .before .before .before .before .before .before .before .before .before .before .before .count .ensures, c .before .before .before .before .before .before .before .before .before .clear .ensures) at (rw (c .before .row .given .1) at (c .before .before .before .before .before .read-core .ensures .0)) in
-    let w = rw (c .before .row .given .1) at (c .before .before .before .before .before .read-core .ensures .1) in
-    (used _ _ _ _ l, words-filled _ _ _ _ l (omega (arith, c .before .before .before .before .before .before .before .before .before .before .before .count .ensures)))
+    let l = rw (c .before .before .before .before .before .before .before .before .before .before .before .count .ensures) at (rw (c .before .before .before .before .before .row .given .1) at (c .before .before .before .before .before .before .before .before .before .read-core .ensures .0)) in
+    let w = rw (c .before .before .before .before .before .row .given .1) at (c .before .before .before .before .before .before .before .before .before .read-core .ensures .1) in
+    (used _ _ _ _ l, c .before .before .clear-from .ensures ∙ words-filled _ _ _ _ l (omega (arith, c .before .before .before .before .before .before .before .before .before .before .before .count .ensures)))
 
 pub read-spec : {M : Type 1} → statement M
-read-spec = tie.close (tie.spec count-requires clear-requires read-core-requires enum-known-n clear-requires-2 enum-known-row same-length returns same-length-2 returns-2)
+read-spec = tie.close (tie.spec count-requires read-core-requires enum-known-n clear-requires enum-known-row mul-clear-from clear-from-requires same-length returns same-length-2 returns-2)

@@ -1,0 +1,256 @@
+// Where a scalar, a short text or a short key ends; 0 where that takes more than a glance, which is left to the reader.
+use format::marks::ARRAY;
+use format::marks::ARRAY_END;
+use format::marks::BYTE;
+use format::marks::CHAR;
+use format::marks::DOUBLE;
+use format::marks::FALSE;
+use format::marks::HALF;
+use format::marks::HIGH_PRECISION;
+use format::marks::INT8;
+use format::marks::INT16;
+use format::marks::INT32;
+use format::marks::INT64;
+use format::marks::Mark;
+use format::marks::NOOP;
+use format::marks::NULL;
+use format::marks::SINGLE;
+use format::marks::TEXT;
+use format::marks::TRUE;
+use format::marks::UINT8;
+use format::marks::UINT16;
+use format::marks::UINT32;
+use format::marks::UINT64;
+use scan::content::are_chars;
+ghost use mathlib.Core.Path.{_≡_};
+ghost use mathlib.Core.Bool.{true};
+ghost use Prim.Native.Nat.{_+_, _≤_, _<_};
+ghost use lib.ListN.{length, getD};
+ghost use lib.Dec.{leb};
+ghost use Rattle.format.specs.Conditions.{all};
+ghost use Rattle.format.specs.Limits.{limit};
+ghost use Rattle.format.specs.Bytes.{bytes as bytesOf};
+ghost use Rattle.runs.specs.Ends.{Sized, ScalarEnds, TextEnds, KeyEnds};
+
+// The size of a mark with which it isn't said where the token ends: more bytes than a message has.
+const NO_SIZE: usize = 0x4000_0000;
+
+// And that of a byte that begins none of these.
+const NO_LETTER: usize = 0x4000_0001;
+
+// The bytes of a scalar's mark and payload, where the payload can't be wrong; else more than a message has.
+pub fn size_of(mark: u8) -> usize
+    ensures { λ r. ⌜ Sized mark r ⌝ }
+{
+    let traits = Mark(mark).traits();
+    if mark == CHAR {
+        return NO_SIZE;
+    }
+    if !traits.scalar {
+        return NO_SIZE;
+    }
+    1 + traits.width
+}
+
+// The same by a table: the way for marks that follow no order, where a jump would be guessed wrong. The letters of other tokens have arms of
+// their own, since the compiler makes a table of this only if enough letters do.
+fn size_by_table(mark: u8) -> usize
+    ensures { λ r. ⌜ Sized mark r ⌝ }
+{
+    match mark {
+        NULL => 1,
+        TRUE => 1,
+        FALSE => 1,
+        INT8 => 2,
+        UINT8 => 2,
+        BYTE => 2,
+        INT16 => 3,
+        UINT16 => 3,
+        HALF => 3,
+        INT32 => 5,
+        UINT32 => 5,
+        SINGLE => 5,
+        INT64 => 9,
+        UINT64 => 9,
+        DOUBLE => 9,
+        CHAR => NO_SIZE,
+        TEXT => NO_SIZE,
+        HIGH_PRECISION => NO_SIZE,
+        NOOP => NO_SIZE,
+        ARRAY => NO_SIZE,
+        ARRAY_END => NO_SIZE,
+        _ => NO_LETTER,
+    }
+}
+
+// The same by a jump: the way for marks that come again in the same order, as in objects, where the jump is guessed and nothing waits.
+fn size_by_jump(mark: u8) -> usize
+    ensures { λ r. ⌜ Sized mark r ⌝ }
+{
+    match mark {
+        NULL => 1,
+        TRUE => 1,
+        FALSE => 1,
+        INT8 => 2,
+        UINT8 => 2,
+        BYTE => 2,
+        INT16 => 3,
+        UINT16 => 3,
+        HALF => 3,
+        INT32 => 5,
+        UINT32 => 5,
+        SINGLE => 5,
+        INT64 => 9,
+        UINT64 => 9,
+        DOUBLE => 9,
+        _ => NO_LETTER,
+    }
+}
+
+// A char.
+fn char_end(message: &[u8], at: usize) -> usize
+    requires { ⌜ (at ≤ length (now message)) × (length (now message) ≤ limit) ⌝ }
+    ensures { λ r. ⌜ (0 < r → ScalarEnds (now (message .entry)) at r) ⌝ }
+{
+    if message.len() - at < 2 {
+        return 0;
+    }
+    if message[at] != CHAR {
+        return 0;
+    }
+    if 127 < message[at + 1] {
+        return 0;
+    }
+    at + 2
+}
+
+// A scalar, where its mark and payload have so many bytes.
+fn sized_end(message: &[u8], at: usize, n: usize) -> usize
+    requires { ⌜ (at < length (now message)) × (length (now message) ≤ limit) × Sized (getD (now message) at 0) n ⌝ }
+    ensures { λ r. ⌜ (0 < r → ScalarEnds (now (message .entry)) at r) ⌝ }
+{
+    if message.len() - at < n {
+        return char_end(message, at);
+    }
+    at + n
+}
+
+// A scalar in an array.
+pub fn scalar_end(message: &[u8], at: usize) -> usize
+    requires { ⌜ (at ≤ length (now message)) × (length (now message) ≤ limit) ⌝ }
+    ensures { λ r. ⌜ (0 < r → ScalarEnds (now (message .entry)) at r) ⌝ }
+{
+    if message.len() <= at {
+        return 0;
+    }
+    let n = size_by_table(message[at]);
+    sized_end(message, at, n)
+}
+
+// A scalar under this mark, which goes with so many bytes: nothing waits for a table.
+pub fn alike_end(message: &[u8], mark: u8, n: usize, at: usize) -> usize
+    requires { ⌜ (at ≤ length (now message)) × (length (now message) ≤ limit) × Sized mark n ⌝ }
+    ensures { λ r. ⌜ (0 < r → ScalarEnds (now (message .entry)) at r) ⌝ }
+{
+    if message.len() <= at {
+        return 0;
+    }
+    if message[at] != mark {
+        return 0;
+    }
+    sized_end(message, at, n)
+}
+
+// A scalar in an object.
+pub fn scalar_value_end(message: &[u8], at: usize) -> usize
+    requires { ⌜ (at ≤ length (now message)) × (length (now message) ≤ limit) ⌝ }
+    ensures { λ r. ⌜ (0 < r → ScalarEnds (now (message .entry)) at r) ⌝ }
+{
+    if message.len() <= at {
+        return 0;
+    }
+    let n = size_by_jump(message[at]);
+    sized_end(message, at, n)
+}
+
+// Whether 32 bytes from `start` on are all below 128, of which the n are the first: no jump depends on how long a text is.
+fn are_chars_around(message: &[u8], start: usize, n: usize) -> bool
+    requires { ⌜ start + n ≤ length (now message) ⌝ }
+    ensures { λ r. ⌜ (r ≡ true → all (λ b. leb b 127) (bytesOf (now (message .entry)) start n) ≡ true) ⌝ }
+{
+    if 32 < n {
+        return false;
+    }
+    if message.len() - start < 32 {
+        return false;
+    }
+    are_chars(&message[start..start + 32])
+}
+
+// A text whose length stands under `U`, all below 128.
+pub fn text_end(message: &[u8], at: usize) -> usize
+    requires { ⌜ (at ≤ length (now message)) × (length (now message) ≤ limit) ⌝ }
+    ensures { λ r. ⌜ (0 < r → TextEnds (now (message .entry)) at r) ⌝ }
+{
+    let left = message.len() - at;
+    if left < 3 {
+        return 0;
+    }
+    if message[at] != TEXT {
+        return 0;
+    }
+    if message[at + 1] != UINT8 {
+        return 0;
+    }
+    let n = message[at + 2] as usize;
+    if left - 3 < n {
+        return 0;
+    }
+    let start = at + 3;
+    let next = start + n;
+    if are_chars_around(message, start, n) {
+        return next;
+    }
+    if are_chars(&message[start..next]) {
+        return next;
+    }
+    0
+}
+
+// Whether every byte is below 128, one by one: the way for keys, which are short.
+fn are_letters(bytes: &[u8]) -> bool
+    ensures { λ r. ⌜ r ≡ all (λ b. leb b 127) (now (bytes .entry)) ⌝ }
+{
+    let mut i = 0;
+    while i < bytes.len() {
+        if 127 < bytes[i] {
+            return false;
+        }
+        i += 1;
+    }
+    true
+}
+
+// A key whose length stands under `U`, all below 128.
+pub fn key_end(message: &[u8], at: usize) -> usize
+    requires { ⌜ (at ≤ length (now message)) × (length (now message) ≤ limit) ⌝ }
+    ensures { λ r. ⌜ (0 < r → KeyEnds (now (message .entry)) at r) ⌝ }
+{
+    let left = message.len() - at;
+    if left < 2 {
+        return 0;
+    }
+    if message[at] != UINT8 {
+        return 0;
+    }
+    let n = message[at + 1] as usize;
+    if left - 2 < n {
+        return 0;
+    }
+    let start = at + 2;
+    let next = start + n;
+    if are_letters(&message[start..next]) {
+        return next;
+    }
+    0
+}
