@@ -1,5 +1,6 @@
 // One slot by its address.
 use crate::dump;
+use crate::held;
 use crate::lists;
 use crate::payloads;
 use format::answers::Located;
@@ -119,6 +120,16 @@ fn record(
     next
 }
 
+// A row that is not held, or that lacks some below it.
+fn missing(rows: &[u32], row: usize, out: &mut [u8], at: usize) -> usize {
+    let begun = text(out, at, b"row ");
+    let shown = number(out, begun, row);
+    if held::lacks_rows(rows, row) {
+        return text(out, shown, b": not all of its rows held\n");
+    }
+    text(out, shown, b": not held\n")
+}
+
 // The address of two lists of numbers: a row, or a row and a leaf row; and the indexes.
 fn listed(
     message: &[u8],
@@ -130,6 +141,9 @@ fn listed(
     at: usize,
 ) -> usize {
     let row = lists::number(place, 0);
+    if held::is_missing(rows, row) {
+        return missing(rows, row, out, at);
+    }
     let indexes = lists::numbers(list);
     let count = least(lists::count(list), 16);
     if lists::count(place) < 2 && shape::is_table(rows, row) {

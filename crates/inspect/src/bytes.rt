@@ -94,7 +94,7 @@ fn step(
     out: &mut [u8],
     w: Walk,
 ) -> Walk {
-    let here = walk::opened(rows, used, stack, w);
+    let here = walk::opened(message, rows, used, stack, w);
     let row = walk::top(stack, here);
     if at_slots(rows, row, here.byte) {
         return walk::closed(message, rows, stack, slots(message, rows, row, out, here));
@@ -107,13 +107,22 @@ fn step(
     )
 }
 
-// All bytes.
+// The bytes that belong to no row that is held.
+fn unheld(message: &[u8], from: usize, out: &mut [u8], at: usize) -> usize {
+    let told = text(out, at, b"the rows held end at byte ");
+    let shown = number(out, told, from);
+    let ended = text(out, shown, b"; the bytes from there on:\n");
+    dump::lines(out, ended, message, from, message.len())
+}
+
+// All bytes; those of rows that are not held as they are.
 pub fn all(message: &[u8], rows: &[u32], used: usize, out: &mut [u8], at: usize) -> usize {
     let mut stack = [0usize; 64];
     let mut w = Walk {
         byte: 0,
         row: 0,
         depth: 0,
+        end: 0,
         at: text(
             out,
             at,
@@ -121,6 +130,9 @@ pub fn all(message: &[u8], rows: &[u32], used: usize, out: &mut [u8], at: usize)
         ),
     };
     while w.byte < message.len() {
+        if walk::is_past(rows, used, w) {
+            return unheld(message, w.byte, out, w.at);
+        }
         let next = step(message, rows, used, &mut stack, out, w);
         if next.byte <= w.byte {
             return next.at;

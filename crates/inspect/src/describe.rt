@@ -1,4 +1,5 @@
 // A row in words.
+use crate::held;
 use format::answers::Located;
 use format::marks::ARRAY;
 use grid::numbers::sum;
@@ -6,18 +7,13 @@ use grid::shape;
 use rows::word;
 use show::block::text;
 use show::names;
+use show::numbers::counted;
 use show::numbers::number;
 use show::quoted::quoted;
 use show::scalars::refused;
 use show::scalars::valued;
 use texts::at_rows::number_at_row;
 use values::at_rows::value_at_row;
-
-// A number and words after it.
-fn counted(out: &mut [u8], at: usize, n: usize, words: &[u8]) -> usize {
-    let next = number(out, at, n);
-    text(out, next, words)
-}
 
 // A mark by the word of a row.
 pub fn mark(out: &mut [u8], at: usize, word: usize) -> usize {
@@ -57,16 +53,20 @@ fn dimensions(rows: &[u32], row: usize, out: &mut [u8], at: usize) -> usize {
     next
 }
 
-// A count, or the dimensions and their product.
-fn shape_of(rows: &[u32], row: usize, words: &[u8], out: &mut [u8], at: usize) -> usize {
+// A count, or the dimensions and their product; the count alone where not all of the rows are held.
+fn shape_of(rows: &[u32], row: usize, unit: &[u8], out: &mut [u8], at: usize) -> usize {
     let order = word(rows, row, 7);
     let count = word(rows, row, 5);
+    if held::is_cut(rows, row) {
+        let all = counted(out, at, count, unit);
+        return text(out, all, b", not all of its rows held");
+    }
     if order == 0 {
-        return counted(out, at, count, words);
+        return counted(out, at, count, unit);
     }
     let shown = dimensions(rows, row, out, at);
     let equal = text(out, shown, b" = ");
-    let all = counted(out, equal, count, words);
+    let all = counted(out, equal, count, unit);
     if order == 1 {
         return text(out, all, b", first index slowest");
     }
@@ -88,10 +88,10 @@ fn texts(message: &[u8], rows: &[u32], row: usize, out: &mut [u8], at: usize) ->
 }
 
 // A container or a schema's, with the number of its members.
-fn members(rows: &[u32], row: usize, words: &[u8], out: &mut [u8], at: usize) -> usize {
+fn members(rows: &[u32], row: usize, unit: &[u8], out: &mut [u8], at: usize) -> usize {
     let kind = names::kind(out, at, word(rows, row, 0));
     let comma = text(out, kind, b", ");
-    counted(out, comma, word(rows, row, 5), words)
+    counted(out, comma, word(rows, row, 5), unit)
 }
 
 // Where a part of a schema stands in a record, and how wide it is.
@@ -106,7 +106,7 @@ fn in_record(rows: &[u32], row: usize, out: &mut [u8], at: usize) -> usize {
 fn packed(rows: &[u32], row: usize, out: &mut [u8], at: usize) -> usize {
     let kind = kind_and_mark(rows, row, out, at);
     let comma = text(out, kind, b", ");
-    shape_of(rows, row, b" elements", out, comma)
+    shape_of(rows, row, b" element", out, comma)
 }
 
 // How a table is laid out.
@@ -121,9 +121,12 @@ fn layout(rows: &[u32], row: usize, out: &mut [u8], at: usize) -> usize {
 fn table(rows: &[u32], row: usize, out: &mut [u8], at: usize) -> usize {
     let kind = names::kind(out, at, word(rows, row, 0));
     let laid = layout(rows, row, out, kind);
-    let shown = shape_of(rows, row, b" records", out, laid);
+    let shown = shape_of(rows, row, b" record", out, laid);
+    if held::is_cut(rows, row) {
+        return shown;
+    }
     let of = text(out, shown, b", each of ");
-    counted(out, of, word(rows, sum(row, 1), 4), b" bytes")
+    counted(out, of, word(rows, sum(row, 1), 4), b" byte")
 }
 
 // A part of a schema.
@@ -134,10 +137,10 @@ fn in_schema(rows: &[u32], row: usize, out: &mut [u8], at: usize) -> usize {
         return in_record(rows, row, out, shown);
     }
     if kind == 10 {
-        let shown = members(rows, row, b" fields", out, at);
+        let shown = members(rows, row, b" field", out, at);
         return in_record(rows, row, out, shown);
     }
-    let shown = members(rows, row, b" kinds", out, at);
+    let shown = members(rows, row, b" kind", out, at);
     in_record(rows, row, out, shown)
 }
 
@@ -156,8 +159,8 @@ pub fn row(message: &[u8], rows: &[u32], row: usize, out: &mut [u8], at: usize) 
         2 => texts(message, rows, row, out, at),
         3 => texts(message, rows, row, out, at),
         4 => texts(message, rows, row, out, at),
-        5 => members(rows, row, b" values", out, at),
-        6 => members(rows, row, b" pairs", out, at),
+        5 => members(rows, row, b" value", out, at),
+        6 => members(rows, row, b" pair", out, at),
         7 => packed(rows, row, out, at),
         8 => table(rows, row, out, at),
         12 => dimension(rows, row, out, at),

@@ -16,7 +16,7 @@ fn views(out: &mut [u8], at: usize) -> usize {
     let a = text(
         out,
         at,
-        b"Shows BJData messages of up to 1,048,576 bytes, from files or from standard input.\n\n",
+        b"Shows BJData messages of up to 1,048,576 bytes, from files or from standard input; of a message with more than 131,072 rows the first of these.\n\n",
     );
     let b = text(
         out,

@@ -6,6 +6,7 @@ mod bytes;
 mod describe;
 mod dump;
 mod files;
+mod held;
 mod help;
 mod lists;
 mod messages;

@@ -4,6 +4,7 @@ use crate::arguments::Asked;
 use crate::arguments::is_plain;
 use crate::bytes;
 use crate::dump;
+use crate::held;
 use crate::names;
 use crate::payloads;
 use crate::tree;
@@ -11,21 +12,20 @@ use crate::verdict;
 use format::answers::Answer;
 use grid::numbers::least;
 use libc::STDOUT_FILENO;
-use reader::message::read;
+use reader::message::read_front;
 use rewriter::message::rewrite;
-use show::block::line;
 
 // The rows, if asked for.
 fn rows_view(
     message: &[u8],
     rows: &[u32],
-    used: usize,
+    needed: usize,
     asked: Asked,
     out: &mut [u8],
     at: usize,
 ) -> usize {
     if asked.rows || is_plain(asked) {
-        return tree::some(message, rows, 0, used, out, at);
+        return tree::some(message, rows, 0, needed, out, at);
     }
     at
 }
@@ -34,13 +34,13 @@ fn rows_view(
 fn slots_view(
     message: &[u8],
     rows: &[u32],
-    used: usize,
+    needed: usize,
     asked: Asked,
     out: &mut [u8],
     at: usize,
 ) -> usize {
     if asked.slots {
-        return payloads::every(message, rows, used, out, at);
+        return payloads::every(message, rows, needed, out, at);
     }
     at
 }
@@ -49,13 +49,13 @@ fn slots_view(
 fn bytes_view(
     message: &[u8],
     rows: &[u32],
-    used: usize,
+    needed: usize,
     asked: Asked,
     out: &mut [u8],
     at: usize,
 ) -> usize {
     if asked.hex {
-        return bytes::all(message, rows, used, out, at);
+        return bytes::all(message, rows, held::before(rows, needed), out, at);
     }
     at
 }
@@ -69,26 +69,26 @@ fn address_view(message: &[u8], rows: &[u32], asked: Asked, out: &mut [u8], at: 
 }
 
 // A path of names, if asked for.
-fn name_view(message: &[u8], rows: &[u32], asked: Asked, out: &mut [u8], at: usize) -> usize {
+fn name_view(message: &[u8], rows: &mut [u32], asked: Asked, out: &mut [u8], at: usize) -> usize {
     if asked.name != 0 {
         return names::argument(message, rows, asked.name, out, at);
     }
     at
 }
 
-// An accepted message.
+// An accepted message, which has so many rows; the table holds the first of them.
 fn accepted(
     message: &[u8],
-    rows: &[u32],
-    used: usize,
+    rows: &mut [u32],
+    needed: usize,
     asked: Asked,
     out: &mut [u8],
     at: usize,
 ) -> usize {
-    let told = verdict::accepted(used, asked.color, out, at);
-    let first = rows_view(message, rows, used, asked, out, told);
-    let second = slots_view(message, rows, used, asked, out, first);
-    let third = bytes_view(message, rows, used, asked, out, second);
+    let told = verdict::accepted(needed, held::before(rows, needed), asked.color, out, at);
+    let first = rows_view(message, rows, needed, asked, out, told);
+    let second = slots_view(message, rows, needed, asked, out, first);
+    let third = bytes_view(message, rows, needed, asked, out, second);
     let fourth = address_view(message, rows, asked, out, third);
     name_view(message, rows, asked, out, fourth)
 }
@@ -112,8 +112,8 @@ fn refused(
 // A message, as it is asked for.
 pub fn shown(message: &[u8], rows: &mut [u32], asked: Asked, out: &mut [u8], at: usize) -> usize {
     let sized = verdict::size(message, out, at);
-    match read(message, rows) {
-        Answer::Done(used) => accepted(message, rows, used, asked, out, sized),
+    match read_front(message, rows) {
+        Answer::Done(needed) => accepted(message, rows, needed, asked, out, sized),
         Answer::Refused(refusal, place) => refused(message, refusal, place, asked, out, sized),
     }
 }
@@ -126,8 +126,7 @@ pub fn rewritten(message: &[u8], rows: &mut [u32], house: &mut [u8], out: &mut [
             io::write_all(STDOUT_FILENO, &house[..n]);
         }
         Answer::Refused(refusal, place) => {
-            let told = verdict::reason(refusal, place, out, 0);
-            let end = line(out, told);
+            let end = verdict::not_rewritten(message, refusal, place, out, 0);
             crate::help::errors(out, end);
         }
     }

@@ -1,13 +1,21 @@
 // The row that a path of names leads to.
+use crate::held;
 use crate::tree;
 use format::answers::Found;
+use grid::numbers::narrow;
 use grid::numbers::sum;
 use grid::shape;
 use lookup::lookup;
+use rows::load;
+use rows::store;
+use rows::word;
 use show::block::line;
 use show::block::text;
 use show::numbers::number;
 use show::scalars::refused;
+
+// The answer where a name may stand among the rows that are not held: no row left.
+const NOT_HELD: u32 = 8;
 
 // The end of the name that starts at a place.
 fn name_end(path: &[u8], from: usize) -> usize {
@@ -26,12 +34,53 @@ fn holder(rows: &[u32], row: usize) -> usize {
     row
 }
 
+// Whether the row has names, and may have more below it than are held.
+fn may_have_more(rows: &[u32], row: usize) -> bool {
+    let kind = word(rows, row, 0);
+    (kind == 6 || kind == 8 || kind == 10) && held::is_cut(rows, row)
+}
+
+// The row that a name leads to among the rows that are held: for the call, the link of a row leads no further than they do.
+fn among(message: &[u8], rows: &mut [u32], row: usize, name: &[u8]) -> Found {
+    let whole = load(rows, row);
+    let mut cut = whole;
+    cut.link = narrow(held::before(rows, shape::link(rows, row)));
+    store(rows, row, cut);
+    let answer = lookup(message, rows, row, name);
+    store(rows, row, whole);
+    answer
+}
+
 // The row that one name leads to.
-fn follow(message: &[u8], rows: &[u32], row: usize, path: &[u8], from: usize, end: usize) -> Found {
+fn follow(
+    message: &[u8],
+    rows: &mut [u32],
+    row: usize,
+    path: &[u8],
+    from: usize,
+    end: usize,
+) -> Found {
     if from <= end && end <= path.len() {
-        return lookup(message, rows, holder(rows, row), &path[from..end]);
+        let holds = holder(rows, row);
+        return among(message, rows, holds, &path[from..end]);
     }
     Found::Refused(10)
+}
+
+// The same, where a refusal says whether the name may stand among the rows that are not held.
+fn step(
+    message: &[u8],
+    rows: &mut [u32],
+    row: usize,
+    path: &[u8],
+    from: usize,
+    end: usize,
+) -> Found {
+    let answer = follow(message, rows, row, path, from, end);
+    if is_refused(answer) && may_have_more(rows, row) {
+        return Found::Refused(NOT_HELD);
+    }
+    answer
 }
 
 // The row that was found; none where the name was refused.
@@ -51,12 +100,12 @@ fn is_refused(found: Found) -> bool {
 }
 
 // The row that a path leads to, from row 0 on.
-fn found(message: &[u8], rows: &[u32], path: &[u8]) -> Found {
+fn found(message: &[u8], rows: &mut [u32], path: &[u8]) -> Found {
     let mut row: usize = 0;
     let mut from: usize = 0;
     while from <= path.len() {
         let end = name_end(path, from);
-        let next = follow(message, rows, row, path, from, end);
+        let next = step(message, rows, row, path, from, end);
         if is_refused(next) {
             return next;
         }
@@ -72,11 +121,19 @@ fn found(message: &[u8], rows: &[u32], path: &[u8]) -> Found {
     Found::Row(row)
 }
 
+// Why a path leads nowhere.
+fn nowhere(refusal: u32, out: &mut [u8], at: usize) -> usize {
+    if refusal == NOT_HELD {
+        return text(out, at, b"not among the rows held");
+    }
+    refused(out, at, refusal)
+}
+
 // What a path leads to: a refusal, or a row and those below it.
 fn shown(message: &[u8], rows: &[u32], answer: Found, out: &mut [u8], at: usize) -> usize {
     match answer {
         Found::Refused(refusal) => {
-            let told = refused(out, at, refusal);
+            let told = nowhere(refusal, out, at);
             line(out, told)
         }
         Found::Row(row) => {
@@ -89,7 +146,7 @@ fn shown(message: &[u8], rows: &[u32], answer: Found, out: &mut [u8], at: usize)
 }
 
 // The path of argument i.
-pub fn argument(message: &[u8], rows: &[u32], i: usize, out: &mut [u8], at: usize) -> usize {
+pub fn argument(message: &[u8], rows: &mut [u32], i: usize, out: &mut [u8], at: usize) -> usize {
     let mut path = io::buffer();
     let n = os::arg(i, &mut path);
     let begun = text(out, at, b"name ");

@@ -1,6 +1,7 @@
 // The slots of packed arrays and tables, in storage order.
 use crate::describe;
 use crate::dump;
+use crate::held;
 use crate::path;
 use format::answers::Located;
 use format::marks::OBJECT;
@@ -17,6 +18,7 @@ use show::block::byte;
 use show::block::line;
 use show::block::spaces;
 use show::block::text;
+use show::numbers::counted;
 use show::numbers::number;
 use show::numbers::right;
 use show::scalars::refused;
@@ -275,8 +277,8 @@ fn more(rows: &[u32], row: usize, out: &mut [u8], at: usize) -> usize {
         return at;
     }
     let begun = text(out, at, b"   and the slots of ");
-    let counted = number(out, begun, left);
-    text(out, counted, b" more records, not shown\n")
+    let shown = counted(out, begun, left, b" more record");
+    text(out, shown, b", not shown\n")
 }
 
 // The slots of a packed array or a table.
@@ -300,31 +302,45 @@ pub fn all(
     more(rows, row, out, next)
 }
 
-// The row of a packed array or a table, in words, and the names of the columns.
-fn heading(message: &[u8], rows: &[u32], row: usize, out: &mut [u8], at: usize) -> usize {
+// The row of a packed array or a table, in words.
+fn told(message: &[u8], rows: &[u32], row: usize, out: &mut [u8], at: usize) -> usize {
     let word = text(out, at, b"row ");
     let shown = number(out, word, row);
     let colon = text(out, shown, b": ");
-    let told = describe::row(message, rows, row, out, colon);
-    text(out, told, b"\n   first   width  address and value\n")
+    describe::row(message, rows, row, out, colon)
+}
+
+// The row and the slots of a packed array or a table; the row alone where not all of its rows are held.
+fn row_and_slots(message: &[u8], rows: &[u32], row: usize, out: &mut [u8], at: usize) -> usize {
+    let begun = told(message, rows, row, out, at);
+    if held::is_cut(rows, row) {
+        return text(out, begun, b": its slots are not shown\n");
+    }
+    let headed = text(out, begun, b"\n   first   width  address and value\n");
+    all(message, rows, false, row, out, headed)
 }
 
 // One row: the slots of a packed array or a table, and nothing of any other.
 fn one(message: &[u8], rows: &[u32], row: usize, out: &mut [u8], at: usize) -> usize {
     if shape::is_packed(rows, row) || shape::is_table(rows, row) {
-        let begun = heading(message, rows, row, out, at);
-        return all(message, rows, false, row, out, begun);
+        return row_and_slots(message, rows, row, out, at);
     }
     at
 }
 
-// The slots of each packed array and table.
-pub fn every(message: &[u8], rows: &[u32], used: usize, out: &mut [u8], at: usize) -> usize {
+// The slots of each packed array and table before a row.
+fn before(message: &[u8], rows: &[u32], end: usize, out: &mut [u8], at: usize) -> usize {
     let mut next = at;
     let mut row: usize = 0;
-    while row < used {
+    while row < end {
         next = one(message, rows, row, out, next);
         row += 1;
     }
     next
+}
+
+// The slots of each packed array and table, as far as rows are held.
+pub fn every(message: &[u8], rows: &[u32], needed: usize, out: &mut [u8], at: usize) -> usize {
+    let next = before(message, rows, held::before(rows, needed), out, at);
+    held::rest(rows, needed, b"and any slots of ", out, next)
 }

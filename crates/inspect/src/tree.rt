@@ -1,5 +1,6 @@
 // The rows as a table, indented by nesting.
 use crate::describe;
+use crate::held;
 use grid::numbers::less;
 use grid::numbers::sum;
 use grid::shape::link;
@@ -77,8 +78,8 @@ fn heading(out: &mut [u8], at: usize) -> usize {
     )
 }
 
-// The rows from one on, before another.
-pub fn some(
+// The rows from one on, before another, with the names of the columns.
+fn lines(
     message: &[u8],
     rows: &[u32],
     from: usize,
@@ -98,4 +99,17 @@ pub fn some(
         row += 1;
     }
     next
+}
+
+// The rows from one on, before another, as far as they are held.
+pub fn some(
+    message: &[u8],
+    rows: &[u32],
+    from: usize,
+    end: usize,
+    out: &mut [u8],
+    at: usize,
+) -> usize {
+    let next = lines(message, rows, from, held::before(rows, end), out, at);
+    held::rest(rows, end, b"     and ", out, next)
 }

@@ -1,4 +1,5 @@
 // The way through the bytes of an accepted message: which token each byte belongs to.
+use crate::held;
 use format::marks::COUNT;
 use format::marks::Mark;
 use format::marks::NOOP;
@@ -15,6 +16,8 @@ pub struct Walk {
     pub byte: usize,
     pub row: usize,
     pub depth: usize,
+    // The byte after all that belongs to the rows opened so far, closing marks aside.
+    pub end: usize,
     // The place after what is shown in the block of output.
     pub at: usize,
 }
@@ -46,18 +49,6 @@ fn set_open(stack: &mut [usize; 64], depth: usize, row: usize) {
     }
 }
 
-// Opens the row that starts at the byte, if one does.
-pub fn opened(rows: &[u32], used: usize, stack: &mut [usize; 64], mut w: Walk) -> Walk {
-    let row = w.row;
-    let depth = w.depth;
-    if row < used && word(rows, row, 2) == w.byte {
-        set_open(stack, depth, row);
-        w.row = sum(row, 1);
-        w.depth = sum(depth, 1);
-    }
-    w
-}
-
 // The byte after a row's payload.
 pub fn payload_end(rows: &[u32], row: usize) -> usize {
     sum(word(rows, row, 3), word(rows, row, 4))
@@ -73,14 +64,22 @@ fn leaf_end(message: &[u8], rows: &[u32], row: usize) -> usize {
     sum(first, 1)
 }
 
+// The byte after the header of a packed array or a table; after its first two marks, where the rows of others in it are not held.
+fn header_end(rows: &[u32], row: usize) -> usize {
+    if held::is_cut(rows, row) {
+        return sum(word(rows, row, 2), 2);
+    }
+    word(rows, row, 3)
+}
+
 // The byte after what a row has at its start: all of a token that holds no others, or what stands before the first that it holds.
 fn head_end(message: &[u8], rows: &[u32], row: usize) -> usize {
     let kind = word(rows, row, 0);
     match kind {
         5 => word(rows, row, 3),
         6 => word(rows, row, 3),
-        7 => word(rows, row, 3),
-        8 => word(rows, row, 3),
+        7 => header_end(rows, row),
+        8 => header_end(rows, row),
         9 => leaf_end(message, rows, row),
         10 => sum(word(rows, row, 2), 1),
         11 => sum(word(rows, row, 2), 1),
@@ -92,6 +91,46 @@ fn head_end(message: &[u8], rows: &[u32], row: usize) -> usize {
 pub fn has_slots(rows: &[u32], row: usize) -> bool {
     let kind = word(rows, row, 0);
     kind == 7 || kind == 8
+}
+
+// The byte after what a row has at its start, or after its slots, if they are known.
+fn reach(message: &[u8], rows: &[u32], row: usize) -> usize {
+    if has_slots(rows, row) && !held::is_cut(rows, row) {
+        return payload_end(rows, row);
+    }
+    head_end(message, rows, row)
+}
+
+// The larger of two numbers.
+fn greatest(a: usize, b: usize) -> usize {
+    if a < b {
+        return b;
+    }
+    a
+}
+
+// Opens the row that starts at the byte, if one does.
+pub fn opened(
+    message: &[u8],
+    rows: &[u32],
+    used: usize,
+    stack: &mut [usize; 64],
+    mut w: Walk,
+) -> Walk {
+    let row = w.row;
+    let depth = w.depth;
+    if row < used && word(rows, row, 2) == w.byte {
+        set_open(stack, depth, row);
+        w.row = sum(row, 1);
+        w.depth = sum(depth, 1);
+        w.end = greatest(w.end, reach(message, rows, row));
+    }
+    w
+}
+
+// Whether the way has come to what belongs to no row that is held.
+pub fn is_past(rows: &[u32], used: usize, w: Walk) -> bool {
+    held::is_cut(rows, 0) && used <= w.row && w.end <= w.byte
 }
 
 // The byte after what a row has where the way has come to.

@@ -15,6 +15,16 @@ pub fn number(out: &mut [u8], at: usize, n: usize) -> usize {
     decimal(out, at, n as u64)
 }
 
+// A number and a word after it, which gets an `s` unless the number is 1.
+pub fn counted(out: &mut [u8], at: usize, n: usize, word: &[u8]) -> usize {
+    let shown = number(out, at, n);
+    let next = text(out, shown, word);
+    if n == 1 {
+        return next;
+    }
+    text(out, next, b"s")
+}
+
 // A number with spaces before it, up to a width.
 pub fn right(out: &mut [u8], at: usize, n: usize, width: usize) -> usize {
     let mut digits = [0u8; 20];

@@ -2,14 +2,15 @@
 use borrow.Author.Needs.{needs}
 use Prim.Native.Nat.{_-_, _+_}
 use lib.ListN.{length}
+use mathlib.Core.Path.{_≡_}
 use Rattle.inspect.proofs.names.found.Statement.{statement}
 use Rattle.inspect.proofs.names.found.Tie as tie
 
 abbrev Inv-loop : tie.InvT-loop
-Inv-loop message rows path row₀ from₀ row from = Unit {0}
+Inv-loop message rows₀ path row₀ from₀ rows row from = length rows ≡ length rows₀
 
 abbrev μ-loop : tie.MeasureT-loop
-μ-loop message rows path row₀ from₀ row from = length path + 1 - from
+μ-loop message rows₀ path row₀ from₀ rows row from = length path + 1 - from
 
 pub found-spec : {M : Type 1} → statement M
 found-spec =
@@ -24,7 +25,11 @@ found-spec =
     (λ c. search needs)
     (λ c. search needs)
     (λ c. search needs)
+    (λ c. search needs)
+    (λ c. search needs)
+    (λ c. search needs)
     (λ c κs. search needs)
+    (λ c. search needs)
     (λ c. search needs)
     (λ c. search needs)
     (λ c. search needs)

@@ -1,10 +1,10 @@
--- `tree::some`: a loop over rows. Assumes nothing.
+-- `tree::lines`: a loop over rows. Assumes nothing.
 use borrow.Author.Needs.{needs}
 use Prim.Native.Nat.{_-_}
 use lib.ListN.{length}
 use mathlib.Core.Path.{_≡_}
-use Rattle.inspect.proofs.tree.some.Statement.{statement}
-use Rattle.inspect.proofs.tree.some.Tie as tie
+use Rattle.inspect.proofs.tree.lines.Statement.{statement}
+use Rattle.inspect.proofs.tree.lines.Tie as tie
 
 abbrev Inv-loop : tie.InvT-loop
 Inv-loop message rows from end out₀ at ends₀ next₀ depth₀ row₀ out ends next depth row = length out ≡ length out₀
@@ -12,8 +12,8 @@ Inv-loop message rows from end out₀ at ends₀ next₀ depth₀ row₀ out end
 abbrev μ-loop : tie.MeasureT-loop
 μ-loop message rows from end out₀ at ends₀ next₀ depth₀ row₀ out ends next depth row = end - row
 
-pub some-spec : {M : Type 1} → statement M
-some-spec =
+pub lines-spec : {M : Type 1} → statement M
+lines-spec =
     tie.close
     (tie.spec
     Inv-loop

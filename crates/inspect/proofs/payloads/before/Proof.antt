@@ -1,0 +1,27 @@
+-- `payloads::before`: a loop over rows. Assumes nothing.
+use borrow.Author.Needs.{needs}
+use Prim.Native.Nat.{_-_}
+use lib.ListN.{length}
+use mathlib.Core.Path.{_≡_}
+use Rattle.inspect.proofs.payloads.before.Statement.{statement}
+use Rattle.inspect.proofs.payloads.before.Tie as tie
+
+abbrev Inv-loop : tie.InvT-loop
+Inv-loop message rows end out₀ at next₀ row₀ out next row = length out ≡ length out₀
+
+abbrev μ-loop : tie.MeasureT-loop
+μ-loop message rows end out₀ at next₀ row₀ out next row = end - row
+
+pub before-spec : {M : Type 1} → statement M
+before-spec =
+    tie.close
+    (tie.spec
+    Inv-loop
+    μ-loop
+    (λ c. search needs)
+    (λ c κs. search needs)
+    (λ c. search needs)
+    (λ c. search needs)
+    (λ c. search needs)
+    (λ c. search needs)
+    (λ c. search needs))
