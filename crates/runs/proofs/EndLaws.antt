@@ -1,5 +1,5 @@
 -- Where a scalar, a text and a key end, by the bytes that are looked at. Assumes nothing.
-use Prim.Native.Nat.{ℕ, zero, suc, _+_, _≤_, _<_}
+use Prim.Native.Nat.{ℕ, zero, suc, _+_, _*_, _/_, _≤_, _<_}
 use mathlib.Core.Path.{_≡_, refl, sym, ap, subst, _∙_}
 use mathlib.Core.Bool.{Bool, true, false, _||_}
 use mathlib.Core.List.{List, [], _∷_}
@@ -7,7 +7,7 @@ use native.Mathlib.Omega.{arith}
 use lib.ListN.{length, getD, take, drop}
 use lib.Seq.{drop-cons, take-take}
 use lib.Dec.{leb, eqb}
-use borrow.Author.Tests.{le-leb, eqb-false, ne-eqb}
+use borrow.Author.Tests.{le-leb, eqb-true, eqb-false, ne-eqb}
 use Rattle.format.specs.Conditions.{if_then_else_, among, all}
 use Rattle.format.specs.Outcome.{done}
 use Rattle.format.specs.Limits.{limit}
@@ -21,7 +21,7 @@ use Rattle.format.proofs.MarkFacts.{among-passes}
 use Rattle.format.proofs.Little.{little-front}
 use Rattle.format.proofs.IntegerCases.{number-done, integer-number}
 use Rattle.tokens.proofs.Cases.{payload-done}
-use Rattle.runs.specs.Ends.{Sized, ScalarEnds, TextEnds, KeyEnds}
+use Rattle.runs.specs.Ends.{Sized, Spans, ScalarEnds, TextEnds, KeyEnds}
 
 -- ---- tests on bytes
 
@@ -46,6 +46,10 @@ letters-text (b ∷ bs) e = let h = both-true (leb b 127) (all _ bs) e in rw (h 
 -- ---- marks
 
 -- a mark has the bytes of its letter
+-- the same of any scalar's mark
+pub spans-at : {mark k n : ℕ} → mark ≡ k → isScalar k ≡ true → n ≡ 1 + width k → Spans mark n
+spans-at e s w = rw e (λ h. (s, w))
+
 pub sized-at : {mark k n : ℕ} → mark ≡ k → isScalar k ≡ true → eqb k 'C' ≡ false → n ≡ 1 + width k → Sized mark n
 sized-at e s c w = rw e (λ h. (s, eqb-false _ _ c, w))
 
@@ -83,6 +87,22 @@ module _ (m : List ℕ) (at : ℕ) where
         sized = rw e (omega arith);
         inside = h;
       }
+
+  -- any scalar, where a char is not over 127
+  pub spans-ends : (n : ℕ) → Spans (getD m at 0) n → at + n ≤ length m → length m ≤ limit → (getD m at 0 * 2 + getD m (at + 1) 0 / 128 ≡ 135 → ⊥)
+      → getD m (at + 1) 0 < 256 → ScalarEnds m at (at + n)
+  unfolding width among if_then_else_
+  spans-ends n r h l c b = go (eqb (getD m at 0) 'C') refl
+    where
+      go : (x : Bool) → eqb (getD m at 0) 'C' ≡ x → ScalarEnds m at (at + n)
+      go true e =
+          let k = eqb-true (getD m at 0) 'C' e in
+          let f = rw k at (r (omega arith)) in
+          let w : n ≡ 2 = f .1 in
+          rw w (char-ends (omega (arith, w)) k (omega (arith, c, k)))
+      go false e =
+          let f = r (omega arith) in
+          sized-ends n (λ g. (f .0, eqb-false _ _ e, f .1)) h l
 
 -- ---- texts and keys
 

@@ -14,6 +14,10 @@ use Rattle.format.specs.Integers.{number, integer}
 abbrev pub Sized : ℕ → ℕ → Type 0
 Sized mark n = n ≤ limit → (isScalar mark ≡ true) × (mark ≡ 'C' → ⊥) × (n ≡ 1 + width mark)
 
+-- where it is such a number: the bytes of any scalar's mark and payload
+abbrev pub Spans : ℕ → ℕ → Type 0
+Spans mark n = n ≤ limit → (isScalar mark ≡ true) × (n ≡ 1 + width mark)
+
 -- a scalar stands at `at` and ends before `end`
 pub record ScalarEnds (m : List ℕ) (at end : ℕ) : Type 0 where
   pub marked : isScalar (getD m at 0) ≡ true

@@ -30,7 +30,7 @@ ghost use lib.Dec.{leb};
 ghost use Rattle.format.specs.Conditions.{all};
 ghost use Rattle.format.specs.Limits.{limit};
 ghost use Rattle.format.specs.Bytes.{bytes as bytesOf};
-ghost use Rattle.runs.specs.Ends.{Sized, ScalarEnds, TextEnds, KeyEnds};
+ghost use Rattle.runs.specs.Ends.{Sized, Spans, ScalarEnds, TextEnds, KeyEnds};
 
 // The size of a mark with which it isn't said where the token ends: more bytes than a message has.
 const NO_SIZE: usize = 0x4000_0000;
@@ -52,10 +52,10 @@ pub fn size_of(mark: u8) -> usize
     1 + traits.width
 }
 
-// The same by a table: the way for marks that follow no order, where a jump would be guessed wrong. The letters of other tokens have arms of
-// their own, since the compiler makes a table of this only if enough letters do.
+// The bytes of any scalar's mark and payload, by a table: the way for marks that follow no order, where a jump would be guessed wrong. The
+// letters of other tokens have arms of their own, since the compiler makes a table of this only if enough letters do.
 fn size_by_table(mark: u8) -> usize
-    ensures { λ r. ⌜ Sized mark r ⌝ }
+    ensures { λ r. ⌜ Spans mark r ⌝ }
 {
     match mark {
         NULL => 1,
@@ -64,6 +64,7 @@ fn size_by_table(mark: u8) -> usize
         INT8 => 2,
         UINT8 => 2,
         BYTE => 2,
+        CHAR => 2,
         INT16 => 3,
         UINT16 => 3,
         HALF => 3,
@@ -73,7 +74,6 @@ fn size_by_table(mark: u8) -> usize
         INT64 => 9,
         UINT64 => 9,
         DOUBLE => 9,
-        CHAR => NO_SIZE,
         TEXT => NO_SIZE,
         HIGH_PRECISION => NO_SIZE,
         NOOP => NO_SIZE,
@@ -83,7 +83,7 @@ fn size_by_table(mark: u8) -> usize
     }
 }
 
-// The same by a jump: the way for marks that come again in the same order, as in objects, where the jump is guessed and nothing waits.
+// The bytes of mark and payload by a jump: the way for marks that come again in the same order, as in objects, where the jump is guessed and nothing waits.
 fn size_by_jump(mark: u8) -> usize
     ensures { λ r. ⌜ Sized mark r ⌝ }
 {
@@ -135,16 +135,30 @@ fn sized_end(message: &[u8], at: usize, n: usize) -> usize
     at + n
 }
 
-// A scalar in an array.
+// A mark and the highest bit of the byte after it: `C`, and a byte over 127.
+const HIGH_CHAR: u32 = 135;
+
+// A scalar in an array, with two bytes after it at least. Whether a char is over 127 is one test with its mark, since a jump by the
+// mark would be guessed wrong; the two bytes keep the compiler from making one for the shortest.
 pub fn scalar_end(message: &[u8], at: usize) -> usize
     requires { ⌜ (at ≤ length (now message)) × (length (now message) ≤ limit) ⌝ }
     ensures { λ r. ⌜ (0 < r → ScalarEnds (now (message .entry)) at r) ⌝ }
 {
-    if message.len() <= at {
+    let left = message.len() - at;
+    if left < 2 {
         return 0;
     }
-    let n = size_by_table(message[at]);
-    sized_end(message, at, n)
+    let mark = message[at];
+    let first = message[at + 1];
+    let both = (mark as u32) * 2 + ((first / 128) as u32);
+    if both == HIGH_CHAR {
+        return 0;
+    }
+    let n = size_by_table(mark);
+    if left - 2 < n {
+        return 0;
+    }
+    at + n
 }
 
 // A scalar under this mark, which goes with so many bytes: nothing waits for a table.

@@ -1,15 +1,68 @@
--- `scalar_end`: by the mark's number of bytes. Assumes nothing.
+-- `scalar_end`: by the mark's number of bytes, and no char over 127. Assumes nothing.
+use Prim.Native.Nat.{_+_}
 use native.Mathlib.Omega.{arith}
 use borrow.Author.Needs.{needs}
+use Rattle.runs.proofs.EndLaws.{spans-ends}
 use Rattle.runs.proofs.ends.scalar_end.Statement.{statement}
 use Rattle.runs.proofs.ends.scalar_end.Tie as tie
+
+sub-left : tie.Need-sub-left
+sub-left c = search needs
+
+returns : tie.Need-returns
+returns c h = absurd (omega arith)
+
+shared-slice-read-mark : tie.Need-shared-slice-read-mark
+shared-slice-read-mark c = search needs
+
+add-first : tie.Need-add-first
+add-first c = search needs
+
+shared-slice-read-first : tie.Need-shared-slice-read-first
+shared-slice-read-first c = search needs
+
+cast-both : tie.Need-cast-both
+cast-both c = omega (arith, c .before .shared-slice-known2 .given (c .before .before .before .before .args .at) .fits)
+
+mul-both : tie.Need-mul-both
+mul-both c = omega (arith, c .before .shared-slice-known2 .given (c .before .before .before .before .args .at) .fits)
+
+cast-both-2 : tie.Need-cast-both-2
+cast-both-2 c = omega (arith, c .shared-slice-known3 .given (c .before .before .before .before .args .at + 1) .fits)
+
+add-both : tie.Need-add-both
+add-both c = omega (arith, c .before .shared-slice-known2 .given (c .before .before .before .before .args .at) .fits, c .shared-slice-known3 .given (c .before .before .before .before .args .at + 1) .fits)
+
+returns-2 : tie.Need-returns-2
+returns-2 c h = absurd (omega arith)
+
+size-by-table-requires : tie.Need-size-by-table-requires
+size-by-table-requires c κs = search needs
+
+returns-3 : tie.Need-returns-3
+returns-3 c h = absurd (omega arith)
+
+add-result : tie.Need-add-result
+add-result c = search needs
+
+returns-4 : tie.Need-returns-4
+returns-4 c h = spans-ends _ _ _ (c .before .size-by-table .ensures) (omega arith) (omega arith) (c .before .before .if2 .left) (c .before .before .before .shared-slice-known3 .given (c .before .before .before .before .before .before .before .args .at + 1) .fits)
 
 pub scalar-end-spec : {M : Type 1} → statement M
 scalar-end-spec =
     tie.close
     (tie.spec
-    (λ c h. absurd (omega arith))
-    (λ c. search needs)
-    (λ c κs. search needs)
-    (λ c κs. search needs)
-    (λ c. search needs))
+    sub-left
+    returns
+    shared-slice-read-mark
+    add-first
+    shared-slice-read-first
+    cast-both
+    mul-both
+    cast-both-2
+    add-both
+    returns-2
+    size-by-table-requires
+    returns-3
+    add-result
+    returns-4)
