@@ -9,6 +9,7 @@ use format::marks::OBJECT;
 use format::marks::TYPE;
 use format::marks::closing_mark;
 use runs::members::several;
+use scan::bytes::byte_at;
 use scan::bytes::stands;
 use scan::integers::Parsed;
 use scan::integers::integer;
@@ -271,7 +272,7 @@ pub fn plain(
     }
 }
 
-// The same, where most have members of one sort only: these are read first.
+// The same, where most have members of one sort only: these are read first, unless the first is a container.
 fn held(
     message: &[u8],
     rows: &mut [u32],
@@ -286,6 +287,9 @@ fn held(
     ensures bounds { λ r. ⌜ ListWithin r start (length (now (message .entry)) - 1) lent ⌝ }
     ensures few { λ r. ⌜ EachByte r start ⌝ }
 {
+    if is_opening(byte_at(message, start)) {
+        return plain(message, rows, lent, levels, brace, start, first);
+    }
     let end = message.len();
     let run = several(message, rows, lent, brace, end, start, first);
     let at = run.at;

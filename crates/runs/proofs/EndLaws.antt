@@ -4,10 +4,10 @@ use mathlib.Core.Path.{_≡_, refl, sym, ap, subst, _∙_}
 use mathlib.Core.Bool.{Bool, true, false, _||_}
 use mathlib.Core.List.{List, [], _∷_}
 use native.Mathlib.Omega.{arith}
-use lib.ListN.{length, getD, take, drop}
-use lib.Seq.{drop-cons, take-take}
-use lib.Dec.{leb, eqb}
-use borrow.Author.Tests.{le-leb, eqb-true, eqb-false, ne-eqb}
+use lib.ListN.{length, getD, set, take, drop, replicate, length-set, length-replicate, getD-replicate}
+use lib.Seq.{drop-cons, take-take, getD-set-same, getD-set-other}
+use lib.Dec.{leb, ltb, eqb}
+use borrow.Author.Tests.{le-leb, ltb-true, eqb-true, eqb-false, ne-eqb}
 use Rattle.format.specs.Conditions.{if_then_else_, among, all}
 use Rattle.format.specs.Outcome.{done}
 use Rattle.format.specs.Limits.{limit}
@@ -21,7 +21,7 @@ use Rattle.format.proofs.MarkFacts.{among-passes}
 use Rattle.format.proofs.Little.{little-front}
 use Rattle.format.proofs.IntegerCases.{number-done, integer-number}
 use Rattle.tokens.proofs.Cases.{payload-done}
-use Rattle.runs.specs.Ends.{Sized, Spans, ScalarEnds, TextEnds, KeyEnds}
+use Rattle.runs.specs.Ends.{Sized, Spans, Sizes, ScalarEnds, TextEnds, KeyEnds}
 
 -- ---- tests on bytes
 
@@ -46,12 +46,33 @@ letters-text (b ∷ bs) e = let h = both-true (leb b 127) (all _ bs) e in rw (h 
 -- ---- marks
 
 -- a mark has the bytes of its letter
--- the same of any scalar's mark
-pub spans-at : {mark k n : ℕ} → mark ≡ k → isScalar k ≡ true → n ≡ 1 + width k → Spans mark n
-spans-at e s w = rw e (λ h. (s, w))
-
 pub sized-at : {mark k n : ℕ} → mark ≡ k → isScalar k ≡ true → eqb k 'C' ≡ false → n ≡ 1 + width k → Sized mark n
 sized-at e s c w = rw e (λ h. (s, eqb-false _ _ c, w))
+
+-- no letter has bytes yet
+pub sizes-none : Sizes (replicate 256 10)
+sizes-none =
+    record {
+      every = length-replicate {A = ℕ} 256 10;
+      spans = λ mark h. rw (getD-replicate {A = ℕ} 256 mark 10 0 h) (λ f. absurd (omega arith));
+    }
+
+-- a scalar's mark is a byte
+scalar-byte : (mark : ℕ) → isScalar mark ≡ true → mark < 256
+unfolding isScalar types integers all among
+scalar-byte mark h = ltb-true mark 256 (among-passes (λ k. ltb k 256) ('Z' ∷ 'T' ∷ 'F' ∷ types) mark refl h)
+
+-- one letter more has its bytes
+pub sizes-set : {sizes : List ℕ} (k n : ℕ) → isScalar k ≡ true → n ≡ 1 + width k → Sizes sizes → Sizes (set sizes k n)
+sizes-set {sizes} k n e w s =
+    record {
+      every = length-set sizes k n ∙ s .every;
+      spans = λ mark h. go mark h (eqb mark k) refl;
+    }
+  where
+    go : (mark : ℕ) → mark < 256 → (x : Bool) → eqb mark k ≡ x → Spans mark (getD (set sizes k n) mark 0)
+    go mark h true f = let small = scalar-byte k e in rw (eqb-true mark k f, getD-set-same sizes k n 0 (omega (arith, s .every))) (λ g. (e, w))
+    go mark h false f = rw (getD-set-other sizes k mark n 0 (eqb-false _ _ f)) (s .spans mark h)
 
 -- under a scalar's mark other than `C` any bytes are right
 scalar-content : (m : List ℕ) (mark start : ℕ) → isScalar mark ≡ true → (mark ≡ 'C' → ⊥) → isContent mark (bytes m start (width mark)) ≡ true
@@ -89,19 +110,19 @@ module _ (m : List ℕ) (at : ℕ) where
       }
 
   -- any scalar, where a char is not over 127
-  pub spans-ends : (n : ℕ) → Spans (getD m at 0) n → at + n ≤ length m → length m ≤ limit → (getD m at 0 * 2 + getD m (at + 1) 0 / 128 ≡ 135 → ⊥)
+  pub spans-ends : (n : ℕ) → Spans (getD m at 0) n → n ≤ 9 → at + n ≤ length m → length m ≤ limit → (getD m at 0 * 2 + getD m (at + 1) 0 / 128 ≡ 135 → ⊥)
       → getD m (at + 1) 0 < 256 → ScalarEnds m at (at + n)
   unfolding width among if_then_else_
-  spans-ends n r h l c b = go (eqb (getD m at 0) 'C') refl
+  spans-ends n r few h l c b = go (eqb (getD m at 0) 'C') refl
     where
       go : (x : Bool) → eqb (getD m at 0) 'C' ≡ x → ScalarEnds m at (at + n)
       go true e =
           let k = eqb-true (getD m at 0) 'C' e in
-          let f = rw k at (r (omega arith)) in
+          let f = rw k at (r few) in
           let w : n ≡ 2 = f .1 in
           rw w (char-ends (omega (arith, w)) k (omega (arith, c, k)))
       go false e =
-          let f = r (omega arith) in
+          let f = r few in
           sized-ends n (λ g. (f .0, eqb-false _ _ e, f .1)) h l
 
 -- ---- texts and keys

@@ -14,9 +14,14 @@ use Rattle.format.specs.Integers.{number, integer}
 abbrev pub Sized : ℕ → ℕ → Type 0
 Sized mark n = n ≤ limit → (isScalar mark ≡ true) × (mark ≡ 'C' → ⊥) × (n ≡ 1 + width mark)
 
--- where it is such a number: the bytes of any scalar's mark and payload
+-- where it is nine at most, and no scalar has more: the bytes of a scalar's mark and payload
 abbrev pub Spans : ℕ → ℕ → Type 0
-Spans mark n = n ≤ limit → (isScalar mark ≡ true) × (n ≡ 1 + width mark)
+Spans mark n = n ≤ 9 → (isScalar mark ≡ true) × (n ≡ 1 + width mark)
+
+-- a list that has such a number at each byte
+pub record Sizes (sizes : List ℕ) : Type 0 where
+  pub every : length sizes ≡ 256
+  pub spans : (mark : ℕ) → mark < 256 → Spans mark (getD sizes mark 0)
 
 -- a scalar stands at `at` and ends before `end`
 pub record ScalarEnds (m : List ℕ) (at end : ℕ) : Type 0 where

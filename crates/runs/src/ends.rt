@@ -1,18 +1,14 @@
 // Where a scalar, a short text or a short key ends; 0 where that takes more than a glance, which is left to the reader.
-use format::marks::ARRAY;
-use format::marks::ARRAY_END;
 use format::marks::BYTE;
 use format::marks::CHAR;
 use format::marks::DOUBLE;
 use format::marks::FALSE;
 use format::marks::HALF;
-use format::marks::HIGH_PRECISION;
 use format::marks::INT8;
 use format::marks::INT16;
 use format::marks::INT32;
 use format::marks::INT64;
 use format::marks::Mark;
-use format::marks::NOOP;
 use format::marks::NULL;
 use format::marks::SINGLE;
 use format::marks::TEXT;
@@ -30,13 +26,10 @@ ghost use lib.Dec.{leb};
 ghost use Rattle.format.specs.Conditions.{all};
 ghost use Rattle.format.specs.Limits.{limit};
 ghost use Rattle.format.specs.Bytes.{bytes as bytesOf};
-ghost use Rattle.runs.specs.Ends.{Sized, Spans, ScalarEnds, TextEnds, KeyEnds};
+ghost use Rattle.runs.specs.Ends.{Sized, Sizes, ScalarEnds, TextEnds, KeyEnds};
 
 // The size of a mark with which it isn't said where the token ends: more bytes than a message has.
 const NO_SIZE: usize = 0x4000_0000;
-
-// And that of a byte that begins none of these.
-const NO_LETTER: usize = 0x4000_0001;
 
 // The bytes of a scalar's mark and payload, where the payload can't be wrong; else more than a message has.
 pub fn size_of(mark: u8) -> usize
@@ -52,35 +45,31 @@ pub fn size_of(mark: u8) -> usize
     1 + traits.width
 }
 
-// The bytes of any scalar's mark and payload, by a table: the way for marks that follow no order, where a jump would be guessed wrong. The
-// letters of other tokens have arms of their own, since the compiler makes a table of this only if enough letters do.
-fn size_by_table(mark: u8) -> usize
-    ensures { λ r. ⌜ Spans mark r ⌝ }
+// More bytes than a scalar's mark and payload have.
+const NO_SCALAR: u8 = 10;
+
+// The bytes of any scalar's mark and payload, by the mark: the way for marks that follow no order, where a jump would be guessed wrong.
+pub fn sizes() -> [u8; 256]
+    ensures { λ r. ⌜ Sizes r ⌝ }
 {
-    match mark {
-        NULL => 1,
-        TRUE => 1,
-        FALSE => 1,
-        INT8 => 2,
-        UINT8 => 2,
-        BYTE => 2,
-        CHAR => 2,
-        INT16 => 3,
-        UINT16 => 3,
-        HALF => 3,
-        INT32 => 5,
-        UINT32 => 5,
-        SINGLE => 5,
-        INT64 => 9,
-        UINT64 => 9,
-        DOUBLE => 9,
-        TEXT => NO_SIZE,
-        HIGH_PRECISION => NO_SIZE,
-        NOOP => NO_SIZE,
-        ARRAY => NO_SIZE,
-        ARRAY_END => NO_SIZE,
-        _ => NO_LETTER,
-    }
+    let mut sizes = [NO_SCALAR; 256];
+    sizes[NULL as usize] = 1;
+    sizes[TRUE as usize] = 1;
+    sizes[FALSE as usize] = 1;
+    sizes[INT8 as usize] = 2;
+    sizes[UINT8 as usize] = 2;
+    sizes[BYTE as usize] = 2;
+    sizes[CHAR as usize] = 2;
+    sizes[INT16 as usize] = 3;
+    sizes[UINT16 as usize] = 3;
+    sizes[HALF as usize] = 3;
+    sizes[INT32 as usize] = 5;
+    sizes[UINT32 as usize] = 5;
+    sizes[SINGLE as usize] = 5;
+    sizes[INT64 as usize] = 9;
+    sizes[UINT64 as usize] = 9;
+    sizes[DOUBLE as usize] = 9;
+    sizes
 }
 
 // The bytes of mark and payload by a jump: the way for marks that come again in the same order, as in objects, where the jump is guessed and nothing waits.
@@ -103,7 +92,7 @@ fn size_by_jump(mark: u8) -> usize
         INT64 => 9,
         UINT64 => 9,
         DOUBLE => 9,
-        _ => NO_LETTER,
+        _ => NO_SIZE,
     }
 }
 
@@ -135,13 +124,20 @@ fn sized_end(message: &[u8], at: usize, n: usize) -> usize
     at + n
 }
 
+// A byte as a number.
+fn number(b: u8) -> usize
+    ensures { λ r. ⌜ r ≡ b ⌝ }
+{
+    b as usize
+}
+
 // A mark and the highest bit of the byte after it: `C`, and a byte over 127.
 const HIGH_CHAR: u32 = 135;
 
 // A scalar in an array, with two bytes after it at least. Whether a char is over 127 is one test with its mark, since a jump by the
 // mark would be guessed wrong; the two bytes keep the compiler from making one for the shortest.
-pub fn scalar_end(message: &[u8], at: usize) -> usize
-    requires { ⌜ (at ≤ length (now message)) × (length (now message) ≤ limit) ⌝ }
+pub fn scalar_end(message: &[u8], sizes: &[u8; 256], at: usize) -> usize
+    requires { ⌜ (at ≤ length (now message)) × (length (now message) ≤ limit) × Sizes (now sizes) ⌝ }
     ensures { λ r. ⌜ (0 < r → ScalarEnds (now (message .entry)) at r) ⌝ }
 {
     let left = message.len() - at;
@@ -154,7 +150,10 @@ pub fn scalar_end(message: &[u8], at: usize) -> usize
     if both == HIGH_CHAR {
         return 0;
     }
-    let n = size_by_table(mark);
+    let n = number(sizes[number(mark)]);
+    if 9 < n {
+        return 0;
+    }
     if left - 2 < n {
         return 0;
     }

@@ -4,8 +4,10 @@ use crate::ends::key_end;
 use crate::ends::scalar_end;
 use crate::ends::scalar_value_end;
 use crate::ends::size_of;
+use crate::ends::sizes;
 use crate::ends::text_end;
 use format::answers::Kind;
+use format::marks::Mark;
 use format::marks::TEXT;
 use scan::bytes::byte_at;
 use tokens::entry::Entry;
@@ -109,6 +111,14 @@ fn scalars(
     ensures passed { λ r. ⌜ PassedIn (now (message .entry)) lent bracket start first (now (rows .entry)) r (now (rows .exit)) ⌝ }
     ensures bounds { λ r. ⌜ RunEnds most start (length (now (message .entry))) lent r ⌝ }
 {
+    if !Mark(byte_at(message, start)).is_scalar() {
+        return Run {
+            at: start,
+            row: first,
+            count: 0,
+        };
+    }
+    let sizes = sizes();
     let mut at = start;
     let mut row = first;
     let mut count = 0;
@@ -116,7 +126,7 @@ fn scalars(
         if lent <= row {
             return Run { at, row, count };
         }
-        let next = scalar_end(message, at);
+        let next = scalar_end(message, &sizes, at);
         if next == 0 {
             return Run { at, row, count };
         }

@@ -41,10 +41,12 @@ use Rattle.containers.proofs.lists.close.Reads as close-reads
 use Rattle.format.proofs.marks.closing_mark.Reads as closing-mark-reads
 use Rattle.reader.proofs.items.member_start.Reads as member-start-reads
 use Rattle.reader.proofs.values.header_at.Reads as header-at-reads
+use Rattle.reader.proofs.values.is_opening.Reads as is-opening-reads
 use Rattle.reader.proofs.values.one.Reads as one-reads
 use Rattle.reader.proofs.values.opens_plain.Reads as opens-plain-reads
 use Rattle.reader.proofs.values.plus.Reads as plus-reads
 use Rattle.runs.proofs.members.several.Reads as several-reads
+use Rattle.scan.proofs.bytes.byte_at.Reads as byte-at-reads
 use Rattle.scan.proofs.bytes.stands.Reads as stands-reads
 use Rattle.scan.proofs.noops.skip.Reads as skip-reads
 use Rattle.typed.proofs.container.typed.Reads as typed-reads
@@ -117,7 +119,7 @@ abbrev following-calls : ℕ → following-lts.Claims
 following-calls t = (opens-plain-reads.Asked, opens-plain-reads.Learnt, held-below t, held.Post, close-reads.Asked, close-reads.Learnt, one-reads.Asked, one-reads.Learnt, several-reads.Asked, several-reads.Learnt, member-below t, member.Post)
 
 abbrev held-calls : ℕ → held-lts.Claims
-held-calls t = (several-reads.Asked, several-reads.Learnt, closing-mark-reads.Asked, closing-mark-reads.Learnt, stands-reads.Asked, stands-reads.Learnt, plain-below t, plain.Post, plus-reads.Asked, plus-reads.Learnt)
+held-calls t = (byte-at-reads.Asked, byte-at-reads.Learnt, is-opening-reads.Asked, is-opening-reads.Learnt, plain-below t, plain.Post, several-reads.Asked, several-reads.Learnt, closing-mark-reads.Asked, closing-mark-reads.Learnt, stands-reads.Asked, stands-reads.Learnt, plus-reads.Asked, plus-reads.Learnt)
 
 abbrev member-calls : ℕ → member-lts.Claims
 member-calls t = (member-start-reads.Asked, member-start-reads.Learnt, container-below t, container.Post)
@@ -361,6 +363,21 @@ following-returns-3 t c =
     let v = c .before .before .before .member in
     rw (c .one2 .ensures) (one-meets _ _ _ _ _ _ _ (v .result) _ _ (c .before .before .before .before .before .before .before .before .before .before .before .before .before .before .before .pre .1 .1) (v .ensures .1) (rw (still .2) at (v .ensures .0)), one-within (v .result) _ _ _ (v .ensures .1))
 
+held-byte-at-requires : (t : ℕ) → held-lts.Need-byte-at-requires (held-calls t) (held-at t) held.Post
+held-byte-at-requires t c κs = search needs
+
+held-is-opening-requires : (t : ℕ) → held-lts.Need-is-opening-requires (held-calls t) (held-at t) held.Post
+held-is-opening-requires t c κs = search needs
+
+held-plain-requires : (t : ℕ) → held-lts.Need-plain-requires (held-calls t) (held-at t) held.Post
+held-plain-requires t c κs = (omega arith, omega arith)
+
+held-same-length : (t : ℕ) → held-lts.Need-same-length (held-calls t) (held-at t) held.Post
+held-same-length t c = omega arith
+
+held-returns : (t : ℕ) → held-lts.Need-returns (held-calls t) (held-at t) held.Post
+held-returns t c = c .before .before .plain .ensures
+
 held-several-requires : (t : ℕ) → held-lts.Need-several-requires (held-calls t) (held-at t) held.Post
 held-several-requires t c κs = omega arith
 
@@ -370,38 +387,38 @@ held-closing-mark-requires t c κs = search needs
 held-stands-requires : (t : ℕ) → held-lts.Need-stands-requires (held-calls t) (held-at t) held.Post
 held-stands-requires t c κs = search needs
 
-held-same-length : (t : ℕ) → held-lts.Need-same-length (held-calls t) (held-at t) held.Post
-held-same-length t c = omega arith
-
-held-returns : (t : ℕ) → held-lts.Need-returns (held-calls t) (held-at t) held.Post
-unfolding memberOf
-held-returns t c =
-    let v = c .before .before .before .before .before .several in
-    let e = v .ensures .1 in
-    let p = v .ensures .0 (nested (c .before .before .before .before .before .before .before .before .before .args .message .now) (c .before .before .before .before .before .before .before .before .before .args .lent) (c .before .before .before .before .before .before .before .before .before .args .levels)) in
-    let a = stands-there _ _ _ (sym (c .before .stands .ensures) ∙ c .if1 .taken) in
-    let k = rw (c .before .before .closing-mark .ensures) at (a .1) in
-    ((λ fuel h. passed-stop _ _ _ _ _ _ fuel _ _ _ _ h p (closing-here _ _ (openingOf (c .before .before .before .before .before .before .before .before .before .args .brace)) (a .0) k) (a .0) k), (omega (arith, a .0), omega arith))
-
-held-plain-requires : (t : ℕ) → held-lts.Need-plain-requires (held-calls t) (held-at t) held.Post
-held-plain-requires t c κs = let e = c .before .before .before .before .before .before .several .ensures .1 in (omega arith, omega arith)
-
-held-plus-requires : (t : ℕ) → held-lts.Need-plus-requires (held-calls t) (held-at t) held.Post
-held-plus-requires t c κs =
-    let e = c .before .before .before .before .before .before .before .before .before .several .ensures .1 in
-    let l = c .before .before .plain in
-    plus-small (l .result) _ _ _ _ _ (e .on) (omega arith) (l .ensures .1 .1) (l .ensures .1 .0)
-
 held-same-length-2 : (t : ℕ) → held-lts.Need-same-length-2 (held-calls t) (held-at t) held.Post
 held-same-length-2 t c = omega arith
 
 held-returns-2 : (t : ℕ) → held-lts.Need-returns-2 (held-calls t) (held-at t) held.Post
 unfolding memberOf
 held-returns-2 t c =
+    let v = c .before .before .before .before .before .several in
+    let e = v .ensures .1 in
+    let p = v .ensures .0 (nested (c .before .before .before .before .before .before .before .before .before .before .before .before .args .message .now) (c .before .before .before .before .before .before .before .before .before .before .before .before .args .lent) (c .before .before .before .before .before .before .before .before .before .before .before .before .args .levels)) in
+    let a = stands-there _ _ _ (sym (c .before .stands .ensures) ∙ c .if2 .taken) in
+    let k = rw (c .before .before .closing-mark .ensures) at (a .1) in
+    ((λ fuel h. passed-stop _ _ _ _ _ _ fuel _ _ _ _ h p (closing-here _ _ (openingOf (c .before .before .before .before .before .before .before .before .before .before .before .before .args .brace)) (a .0) k) (a .0) k), (omega (arith, a .0), omega arith))
+
+held-plain-requires-2 : (t : ℕ) → held-lts.Need-plain-requires-2 (held-calls t) (held-at t) held.Post
+held-plain-requires-2 t c κs = let e = c .before .before .before .before .before .before .several .ensures .1 in (omega arith, omega arith)
+
+held-plus-requires : (t : ℕ) → held-lts.Need-plus-requires (held-calls t) (held-at t) held.Post
+held-plus-requires t c κs =
+    let e = c .before .before .before .before .before .before .before .before .before .several .ensures .1 in
+    let l = c .before .before .plain2 in
+    plus-small (l .result) _ _ _ _ _ (e .on) (omega (arith, c .before .before .before .before .before .before .before .before .before .before .before .before .before .before .before .before .pre .1)) (l .ensures .1 .1) (l .ensures .1 .0)
+
+held-same-length-3 : (t : ℕ) → held-lts.Need-same-length-3 (held-calls t) (held-at t) held.Post
+held-same-length-3 t c = omega arith
+
+held-returns-3 : (t : ℕ) → held-lts.Need-returns-3 (held-calls t) (held-at t) held.Post
+unfolding memberOf
+held-returns-3 t c =
     let v = c .before .before .before .before .before .before .before .before .before .before .several in
     let e = v .ensures .1 in
-    let p = v .ensures .0 (nested (c .before .before .before .before .before .before .before .before .before .before .before .before .before .before .args .message .now) (c .before .before .before .before .before .before .before .before .before .before .before .before .before .before .args .lent) (c .before .before .before .before .before .before .before .before .before .before .before .before .before .before .args .levels)) in
-    let l = c .before .before .before .plain in
+    let p = v .ensures .0 (nested (c .before .before .before .before .before .before .before .before .before .before .before .before .before .before .before .before .before .args .message .now) (c .before .before .before .before .before .before .before .before .before .before .before .before .before .before .before .before .before .args .lent) (c .before .before .before .before .before .before .before .before .before .before .before .before .before .before .before .before .before .args .levels)) in
+    let l = c .before .before .before .plain2 in
     rw (c .plus .ensures) (list-passed _ _ _ _ _ _ (l .result) _ _ _ _ _ p (l .ensures .0), (list-within (l .result) _ _ _ _ _ (e .on) (l .ensures .1 .1) (l .ensures .1 .0), each-byte (l .result) _ _ _ (e .on) (l .ensures .1 .1)))
 
 member-member-start-requires : (t : ℕ) → member-lts.Need-member-start-requires (member-calls t) (member-at t) member.Post
@@ -535,7 +552,7 @@ pub +container+counted+following+held+member+plain-spec : {M : Type 1} → state
     counted-Inv-loop
     counted-μ-loop (counted-loop-holds t) (counted-sub-most t) (counted-several-requires t) (counted-add-count t) (counted-loop-less t) (counted-loop-again t) (counted-skip-requires t) (counted-member-requires t) (counted-enum-known-number t) (counted-same-length t) (counted-returns t) (counted-enum-known-next t) (counted-add-count-2 t) (counted-loop-less-2 t) (counted-loop-again-2 t) (counted-same-length-2 t) (counted-returns-2 t)) (λ t. following-lts.spec (following-calls t) (following-at t)
     following.Post (following-opens-plain-requires t) (following-shared-slice-read-inner t) (following-add-start t) (following-add-below t) (following-sub-held t) (following-held-requires t) (following-close-requires t) (following-one-requires t) (following-same-length t) (following-returns t) (following-several-requires t) (following-same-length-2 t) (following-returns-2 t) (following-member-requires t) (following-one-requires-2 t) (following-same-length-3 t) (following-returns-3 t)) (λ t. held-lts.spec (held-calls t) (held-at t)
-    held.Post (held-several-requires t) (held-closing-mark-requires t) (held-stands-requires t) (held-same-length t) (held-returns t) (held-plain-requires t) (held-plus-requires t) (held-same-length-2 t) (held-returns-2 t)) (λ t. member-lts.spec (member-calls t) (member-at t)
+    held.Post (held-byte-at-requires t) (held-is-opening-requires t) (held-plain-requires t) (held-same-length t) (held-returns t) (held-several-requires t) (held-closing-mark-requires t) (held-stands-requires t) (held-same-length-2 t) (held-returns-2 t) (held-plain-requires-2 t) (held-plus-requires t) (held-same-length-3 t) (held-returns-3 t)) (λ t. member-lts.spec (member-calls t) (member-at t)
     member.Post (member-member-start-requires t) (member-enum-known-n t) (member-enum-known-next t) (member-enum-known-b t) (member-container-requires t) (member-same-length t) (member-returns t) (member-same-length-2 t) (member-returns-2 t) (member-same-length-3 t) (member-returns-3 t))
     λ t. plain-lts.spec (plain-calls t) (plain-at t)
     plain.Post
