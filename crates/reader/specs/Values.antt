@@ -10,7 +10,7 @@ use Rattle.format.specs.Bytes.{skip}
 use Rattle.format.specs.Sequences.{Reader, repeat, spaced, until}
 use Rattle.format.specs.Containers.{typed, items}
 use Rattle.format.specs.Read.{valueBy, nested}
-use Rattle.containers.specs.Lists.{closed}
+use Rattle.containers.specs.Lists.{closed, ListMeets}
 use Rattle.containers.specs.declared.lists.Listed.{Listed}
 use Rattle.containers.specs.declared.lists.Listed.the-variants.{Fault as Stopped, Next as Went}
 use Rattle.tokens.specs.declared.Step.{Step}
@@ -39,6 +39,13 @@ HeaderWithin (Fault n p) low high lent levels at row = Unit {0}
 HeaderWithin Typed low high lent levels at row = (row < lent) × (low ≤ high)
 HeaderWithin (Counted n start) low high lent levels at row = (row < lent) × (0 < levels) × (n ≤ limit) × (low ≤ start) × (start ≤ high)
 HeaderWithin Plain low high lent levels at row = (row < lent) × (0 < levels) × (low ≤ high)
+
+-- ---- members up to the closing mark
+
+-- what is read of them, with any fuel that the message can't use up
+abbrev pub PlainMeets : Listed → List ℕ → ℕ → ℕ → Opening → ℕ → ℕ → List ℕ → List ℕ → Type 0
+PlainMeets r m lent levels opening start first before after = (fuel : ℕ) → length m ≤ start + fuel
+    → ListMeets r (until m fuel (skip m) (closes opening) (memberOf m lent levels opening) start first) first before after
 
 -- ---- members that follow
 

@@ -18,18 +18,17 @@ use tokens::Step;
 use typed::container::typed;
 ghost use mathlib.Core.Path.{_≡_};
 ghost use mathlib.Core.Bool.{true};
-ghost use Prim.Native.Nat.{ℕ, _+_, _-_, _≤_, _<_};
+ghost use Prim.Native.Nat.{_+_, _-_, _≤_, _<_};
 ghost use lib.ListN.{length, getD};
 ghost use lib.Dec.{eqb};
 ghost use Rattle.format.specs.Limits.{limit};
 ghost use Rattle.format.specs.Marks.{openingOf, opens, closes, left-brace};
-ghost use Rattle.format.specs.Bytes.{skip as skipIn};
-ghost use Rattle.format.specs.Sequences.{spaced, repeat, until};
+ghost use Rattle.format.specs.Sequences.{spaced, repeat};
 ghost use Rattle.format.specs.Read.{nested};
 ghost use Rattle.tokens.specs.Answers.{Meets, Here, Within};
 ghost use Rattle.containers.specs.Lists.{ListMeets, ListWithin};
 ghost use Rattle.runs.specs.Runs.{Begins};
-ghost use Rattle.reader.specs.Values.{HeaderMeets, HeaderWithin, memberOf, FollowingMeets, FollowingWithin, OpensPlain, Small, EachByte, oneOf, plusOf};
+ghost use Rattle.reader.specs.Values.{HeaderMeets, HeaderWithin, memberOf, PlainMeets, FollowingMeets, FollowingWithin, OpensPlain, Small, EachByte, oneOf, plusOf};
 
 // What follows an opening mark: a refusal; `$`; `#` and a count, and where the first member may begin; or neither.
 pub enum Header {
@@ -242,7 +241,7 @@ pub fn plain(
     first: usize,
 ) -> Listed
     requires { ⌜ Here (now message) lent start first ⌝ }
-    ensures meets { λ r. ⌜ ((fuel : ℕ) → length (now (message .entry)) ≤ start + fuel → ListMeets r (until (now (message .entry)) fuel (skipIn (now (message .entry))) (closes (openingOf brace)) (memberOf (now (message .entry)) lent levels (openingOf brace)) start first) first (now (rows .entry)) (now (rows .exit))) ⌝ }
+    ensures meets { λ r. ⌜ PlainMeets r (now (message .entry)) lent levels (openingOf brace) start first (now (rows .entry)) (now (rows .exit)) ⌝ }
     ensures bounds { λ r. ⌜ ListWithin r start (length (now (message .entry)) - 1) lent ⌝ }
     ensures few { λ r. ⌜ EachByte r start ⌝ }
 {
@@ -283,7 +282,7 @@ fn held(
     first: usize,
 ) -> Listed
     requires { ⌜ Here (now message) lent start first ⌝ }
-    ensures meets { λ r. ⌜ ((fuel : ℕ) → length (now (message .entry)) ≤ start + fuel → ListMeets r (until (now (message .entry)) fuel (skipIn (now (message .entry))) (closes (openingOf brace)) (memberOf (now (message .entry)) lent levels (openingOf brace)) start first) first (now (rows .entry)) (now (rows .exit))) ⌝ }
+    ensures meets { λ r. ⌜ PlainMeets r (now (message .entry)) lent levels (openingOf brace) start first (now (rows .entry)) (now (rows .exit)) ⌝ }
     ensures bounds { λ r. ⌜ ListWithin r start (length (now (message .entry)) - 1) lent ⌝ }
     ensures few { λ r. ⌜ EachByte r start ⌝ }
 {

@@ -15,7 +15,7 @@ use Rattle.format.specs.Marks.{integers, isInteger, signedIntegers, isSigned, t
 use Rattle.format.specs.Text.{shaped, isText}
 use Rattle.format.specs.Bytes.{little, bytes}
 use Rattle.format.specs.Content.{isContent, payloadEnd}
-use Rattle.format.specs.Integers.{isNegative, number, integer}
+use Rattle.format.specs.Integers.{isNegative, number}
 use Rattle.format.proofs.Tests.{both-true}
 use Rattle.format.proofs.MarkFacts.{among-passes}
 use Rattle.format.proofs.Little.{little-front}

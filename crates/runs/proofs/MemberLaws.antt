@@ -6,7 +6,7 @@ use mathlib.Core.Bool.{Bool, true, false, not, false≢true}
 use mathlib.Core.List.{List, [], _∷_}
 use native.Mathlib.Omega.{arith}
 use lib.ListN.{length, getD}
-use borrow.Author.Tests.{lt-ltb}
+use borrow.Author.Tests.{lt-ltb, ne-eqb}
 use Rattle.format.specs.Conditions.{if_then_else_, among, all}
 use Rattle.format.specs.Outcome.{done, _>>=_, _>>_, guard}
 use Rattle.format.specs.Marks.{Opening, bracket, brace, closes, integers, isInteger, types, isScalar, width, 'F', 'N', 'S', 'T', 'Z', ']', right-brace}
@@ -26,8 +26,8 @@ use Rattle.tokens.specs.declared.Step.the-variants.{Next}
 use Rattle.tokens.proofs.Cases.{after, scalar-row, text-there, key-there}
 use Rattle.tokens.proofs.Laying.{laid-alone}
 use Rattle.tokens.proofs.Sofar.{seq-meets}
-use Rattle.runs.specs.Ends.{ScalarEnds, TextEnds, KeyEnds}
-use Rattle.runs.specs.Runs.{Begins, PassedIn, RunEnds}
+use Rattle.runs.specs.Ends.{ScalarEnds, TextEnds, KeyEnds, ValueEnds, textThere, scalarThere}
+use Rattle.runs.specs.Runs.{Begins, PassedIn, RunEnds, valueStart, valueToken}
 use Rattle.runs.specs.declared.members.Run.{Run}
 use Rattle.runs.proofs.Passing.{passed-start, passed-one, passed-join}
 
@@ -45,6 +45,10 @@ scalar-begins : (mark : ℕ) → isScalar mark ≡ true → begins mark ≡ true
 unfolding isScalar types integers all begins among
 scalar-begins mark h = among-passes begins ('Z' ∷ 'T' ∷ 'F' ∷ types) mark refl h
 
+scalar-no-text : (mark : ℕ) → isScalar mark ≡ true → mark ≡ 'S' → ⊥
+unfolding isScalar types integers among
+scalar-no-text mark h e = false≢true (sym (ap isScalar e) ∙ h)
+
 begins-here : (m : List ℕ) (at : ℕ) (opening : Opening) → at < length m → begins (getD m at 0) ≡ true → Begins m (closes opening) at
 unfolding begins among
 begins-here m at opening there h =
@@ -53,6 +57,25 @@ begins-here m at opening there h =
       here = skip-here m at there (λ e. false≢true (sym (ap begins e) ∙ h));
       more = λ e. false≢true (sym (closing-ends opening) ∙ sym (ap begins e) ∙ h);
     }
+
+-- ---- a text or a scalar, by its mark
+
+module _ (mark at : ℕ) where
+  pub value-start-text : mark ≡ 'S' → valueStart mark at ≡ at + 3
+  unfolding valueStart if_then_else_
+  value-start-text e = rw e
+
+  pub value-start-scalar : (mark ≡ 'S' → ⊥) → valueStart mark at ≡ at + 1
+  unfolding valueStart if_then_else_
+  value-start-scalar e = rw (ne-eqb _ _ e)
+
+  pub value-token-text : (end : ℕ) → mark ≡ 'S' → valueToken mark at end ≡ uncounted Tokens.text 'S' at (at + 3) (end - (at + 3))
+  unfolding valueToken if_then_else_
+  value-token-text end e = rw (value-start-text e, e)
+
+  pub value-token-scalar : (end : ℕ) → (mark ≡ 'S' → ⊥) → valueToken mark at end ≡ uncounted Tokens.scalar mark at (at + 1) (end - (at + 1))
+  unfolding valueToken if_then_else_
+  value-token-scalar end e = rw (value-start-scalar e, ne-eqb _ _ e)
 
 -- ---- a value that is one token
 
@@ -88,6 +111,19 @@ module _ (m : List ℕ) (at : ℕ) where
           one = refl;
           read = λ lent row h nested. rw (lt-ltb _ _ there, s .marked, n) (text-there m lent at row Tokens.text 'S' _ _ h (s .long) ∙ rw (s .right));
         }
+
+    -- either, by its mark
+    pub value-stands : ValueEnds m at end → Stands (valueToken (getD m at 0) at end) end
+    value-stands (textThere s) = rw (value-token-text _ at end (s .marked)) (text-stands s)
+    value-stands (scalarThere s) = rw (value-token-scalar _ at end (scalar-no-text _ (s .marked))) (scalar-stands s)
+
+    pub value-starts : ValueEnds m at end → valueStart (getD m at 0) at ≤ end
+    value-starts (textThere s) = rw (value-start-text _ at (s .marked)) (omega arith)
+    value-starts (scalarThere s) = rw (value-start-scalar _ at (scalar-no-text _ (s .marked))) (omega arith)
+
+    pub value-inside : ValueEnds m at end → (at < end) × (end ≤ length m)
+    value-inside (textThere s) = omega arith
+    value-inside (scalarThere s) = omega arith
 
     -- a key
     module _ (s : KeyEnds m at end) where
@@ -134,13 +170,6 @@ module _ (m : List ℕ) (lent : ℕ) where
   pub passed-more : (opening : Opening) (start first : ℕ) (before now after : List ℕ) (r q : Run) → PassedIn m lent opening start first before r now
       → PassedIn m lent opening (r .at) (r .row) now q after → PassedIn m lent opening start first before (record { at = q .at; row = q .row; count = r .count + q .count }) after
   passed-more opening start first before now after r q p h nested = passed-join m (closes opening) (items m lent opening (valueBy m lent nested)) (p nested) (h nested)
-
-  -- none, and then some
-  pub passed-none : (opening : Opening) (start first : ℕ) (before now after : List ℕ) (r q : Run) → r .count ≤ 0 → PassedIn m lent opening start first before r now
-      → PassedIn m lent opening (r .at) (r .row) now q after → PassedIn m lent opening start first before q after
-  passed-none opening start first before now after r q none p h nested =
-      let e : r .count + q .count ≡ q .count = omega arith in
-      rw e at (passed-more opening start first before now after r q p h nested)
 
 -- ---- a loop over them
 

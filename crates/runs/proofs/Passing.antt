@@ -3,14 +3,14 @@ use Prim.Native.Nat.{ℕ, zero, suc, _+_, _≤_, _<_}
 use mathlib.Core.Path.{_≡_, refl, sym, ap, _∙_}
 use mathlib.Core.List.{List}
 use native.Mathlib.Omega.{arith}
-use lib.ListN.{length, getD}
+use lib.ListN.{length}
 use borrow.Author.Tests.{lt-ltb, ne-eqb}
 use Rattle.format.specs.Conditions.{if_then_else_}
-use Rattle.format.specs.Outcome.{done, _>>=_, _>>_, guard}
-use Rattle.format.specs.Tokens.{Forest, none, size, _⊕_, members}
+use Rattle.format.specs.Outcome.{_>>=_, _>>_, guard}
+use Rattle.format.specs.Tokens.{none, size, _⊕_, members}
 use Rattle.format.specs.Rows.{rows}
 use Rattle.format.specs.Bytes.{byte, skip}
-use Rattle.format.specs.Sequences.{Reader, _⨾_, repeat, until, spaced}
+use Rattle.format.specs.Sequences.{Reader, repeat, until, spaced}
 use Rattle.format.proofs.Forests.{size-append, members-append}
 use Rattle.rows.specs.Overlay.{lay}
 use Rattle.tokens.specs.Answers.{onto, Laid}

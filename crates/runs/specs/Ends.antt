@@ -38,6 +38,11 @@ pub record TextEnds (m : List ℕ) (at end : ℕ) : Type 0 where
   pub sized : end ≡ at + 3 + getD m (at + 2) 0
   pub inside : end ≤ length m
 
+-- a text or a scalar stands at `at` and ends before `end`
+pub data ValueEnds (m : List ℕ) (at end : ℕ) : Type 0 where
+  textThere : TextEnds m at end → ValueEnds m at end
+  scalarThere : ScalarEnds m at end → ValueEnds m at end
+
 -- `U`, a length and so much text stand at `at`, and end before `end`
 pub record KeyEnds (m : List ℕ) (at end : ℕ) : Type 0 where
   pub marked : getD m at 0 ≡ 'U'

@@ -1,11 +1,12 @@
 -- Members that are read one after another, with no `N` between them.
-use Prim.Native.Nat.{ℕ, _+_, _≤_, _<_}
+use Prim.Native.Nat.{ℕ, _+_, _-_, _≤_, _<_}
 use mathlib.Core.Path.{_≡_}
 use mathlib.Core.List.{List}
 use lib.ListN.{length, getD}
-use Rattle.format.specs.Limits.{limit}
-use Rattle.format.specs.Marks.{Opening, closes}
-use Rattle.format.specs.Tokens.{Forest, size, members}
+use lib.Dec.{eqb}
+use Rattle.format.specs.Conditions.{if_then_else_}
+use Rattle.format.specs.Marks.{Opening, closes, 'S'}
+use Rattle.format.specs.Tokens.{Token, text, scalar, uncounted, Forest, size, members}
 use Rattle.format.specs.Rows.{rows}
 use Rattle.format.specs.Bytes.{skip}
 use Rattle.format.specs.Sequences.{Reader, repeat, until, spaced}
@@ -14,6 +15,14 @@ use Rattle.format.specs.Read.{valueBy}
 use Rattle.rows.specs.Overlay.{lay}
 use Rattle.tokens.specs.Answers.{onto}
 use Rattle.runs.specs.declared.members.Run.{Run}
+
+-- the first payload byte of a text whose length stands under `U`, or of a scalar under this mark
+unfoldable pub valueStart : ℕ → ℕ → ℕ
+valueStart mark at = if eqb mark 'S' then at + 3 else at + 1
+
+-- its token
+unfoldable pub valueToken : ℕ → ℕ → ℕ → Token
+valueToken mark at end = uncounted (if eqb mark 'S' then text else scalar) mark at (valueStart mark at) (end - valueStart mark at)
 
 -- a member may begin here: no `N` stands here, and not the closing mark
 pub record Begins (m : List ℕ) (closing at : ℕ) : Type 0 where
@@ -50,3 +59,7 @@ pub record RunEnds (most start high lent : ℕ) (r : Run) : Type 0 where
   pub rowLent : r .row ≤ lent
   pub rowByte : r .row ≤ r .at
   pub few : r .count ≤ most
+
+-- what a loop answers: the members that it passed, and where it ends
+abbrev pub RunMeets : Run → List ℕ → ℕ → Opening → ℕ → ℕ → ℕ → List ℕ → List ℕ → Type 0
+RunMeets r m lent opening most start first before now = PassedIn m lent opening start first before r now × RunEnds most start (length m) lent r

@@ -1,4 +1,4 @@
-// Where a scalar, a short text or a short key ends; 0 where that takes more than a glance, which is left to the reader.
+// Where a scalar, a short text or a short key ends; 0 where a few bytes don't tell, which is left to the reader.
 use format::marks::BYTE;
 use format::marks::CHAR;
 use format::marks::DOUBLE;
@@ -19,14 +19,13 @@ use format::marks::UINT32;
 use format::marks::UINT64;
 use scan::content::are_chars;
 ghost use mathlib.Core.Path.{_≡_};
-ghost use mathlib.Core.Bool.{true};
 ghost use Prim.Native.Nat.{_+_, _≤_, _<_};
 ghost use lib.ListN.{length, getD};
 ghost use lib.Dec.{leb};
 ghost use Rattle.format.specs.Conditions.{all};
 ghost use Rattle.format.specs.Limits.{limit};
 ghost use Rattle.format.specs.Bytes.{bytes as bytesOf};
-ghost use Rattle.runs.specs.Ends.{Sized, Sizes, ScalarEnds, TextEnds, KeyEnds};
+ghost use Rattle.runs.specs.Ends.{Sized, Sizes, ScalarEnds, TextEnds, KeyEnds, ValueEnds};
 
 // The size of a mark with which it isn't said where the token ends: more bytes than a message has.
 const NO_SIZE: usize = 0x4000_0000;
@@ -45,7 +44,10 @@ pub fn size_of(mark: u8) -> usize
     1 + traits.width
 }
 
-// More bytes than a scalar's mark and payload have.
+// The most bytes that a scalar's mark and payload have.
+pub const LONGEST: usize = 9;
+
+// More than these: at a byte that is no scalar's mark.
 const NO_SCALAR: u8 = 10;
 
 // The bytes of any scalar's mark and payload, by the mark: the way for marks that follow no order, where a jump would be guessed wrong.
@@ -72,7 +74,8 @@ pub fn sizes() -> [u8; 256]
     sizes
 }
 
-// The bytes of mark and payload by a jump: the way for marks that come again in the same order, as in objects, where the jump is guessed and nothing waits.
+// The bytes of mark and payload by a jump, but of a char: the way for marks that come again in the same order, as in objects, where the
+// jump is guessed and nothing waits.
 fn size_by_jump(mark: u8) -> usize
     ensures { λ r. ⌜ Sized mark r ⌝ }
 {
@@ -96,6 +99,13 @@ fn size_by_jump(mark: u8) -> usize
     }
 }
 
+// A byte as a number.
+fn number(b: u8) -> usize
+    ensures { λ r. ⌜ r ≡ b ⌝ }
+{
+    b as usize
+}
+
 // A char.
 fn char_end(message: &[u8], at: usize) -> usize
     requires { ⌜ (at ≤ length (now message)) × (length (now message) ≤ limit) ⌝ }
@@ -113,7 +123,7 @@ fn char_end(message: &[u8], at: usize) -> usize
     at + 2
 }
 
-// A scalar, where its mark and payload have so many bytes.
+// A scalar, where its mark and payload have so many bytes; a char, where that is more than there are.
 fn sized_end(message: &[u8], at: usize, n: usize) -> usize
     requires { ⌜ (at < length (now message)) × (length (now message) ≤ limit) × Sized (getD (now message) at 0) n ⌝ }
     ensures { λ r. ⌜ (0 < r → ScalarEnds (now (message .entry)) at r) ⌝ }
@@ -122,13 +132,6 @@ fn sized_end(message: &[u8], at: usize, n: usize) -> usize
         return char_end(message, at);
     }
     at + n
-}
-
-// A byte as a number.
-fn number(b: u8) -> usize
-    ensures { λ r. ⌜ r ≡ b ⌝ }
-{
-    b as usize
 }
 
 // A mark and the highest bit of the byte after it: `C`, and a byte over 127.
@@ -151,7 +154,7 @@ pub fn scalar_end(message: &[u8], sizes: &[u8; 256], at: usize) -> usize
         return 0;
     }
     let n = number(sizes[number(mark)]);
-    if 9 < n {
+    if LONGEST < n {
         return 0;
     }
     if left - 2 < n {
@@ -175,7 +178,7 @@ pub fn alike_end(message: &[u8], mark: u8, n: usize, at: usize) -> usize
 }
 
 // A scalar in an object.
-pub fn scalar_value_end(message: &[u8], at: usize) -> usize
+fn scalar_value_end(message: &[u8], at: usize) -> usize
     requires { ⌜ (at ≤ length (now message)) × (length (now message) ≤ limit) ⌝ }
     ensures { λ r. ⌜ (0 < r → ScalarEnds (now (message .entry)) at r) ⌝ }
 {
@@ -186,18 +189,35 @@ pub fn scalar_value_end(message: &[u8], at: usize) -> usize
     sized_end(message, at, n)
 }
 
-// Whether 32 bytes from `start` on are all below 128, of which the n are the first: no jump depends on how long a text is.
-fn are_chars_around(message: &[u8], start: usize, n: usize) -> bool
+// Whether every byte is below 128, one by one: the way where they are few.
+fn are_chars_singly(bytes: &[u8]) -> bool
+    ensures { λ r. ⌜ r ≡ all (λ b. leb b 127) (now (bytes .entry)) ⌝ }
+{
+    let mut i = 0;
+    while i < bytes.len() {
+        if 127 < bytes[i] {
+            return false;
+        }
+        i += 1;
+    }
+    true
+}
+
+// Whether the n bytes from `start` on are all below 128. Where they are few, all of 32 may be, which is seen at a time and by no jump
+// that depends on n.
+fn are_chars_from(message: &[u8], start: usize, n: usize) -> bool
     requires { ⌜ start + n ≤ length (now message) ⌝ }
-    ensures { λ r. ⌜ (r ≡ true → all (λ b. leb b 127) (bytesOf (now (message .entry)) start n) ≡ true) ⌝ }
+    ensures { λ r. ⌜ r ≡ all (λ b. leb b 127) (bytesOf (now (message .entry)) start n) ⌝ }
 {
     if 32 < n {
-        return false;
+        return are_chars(&message[start..start + n]);
     }
-    if message.len() - start < 32 {
-        return false;
+    if 32 <= message.len() - start {
+        if are_chars(&message[start..start + 32]) {
+            return true;
+        }
     }
-    are_chars(&message[start..start + 32])
+    are_chars_singly(&message[start..start + n])
 }
 
 // A text whose length stands under `U`, all below 128.
@@ -221,27 +241,10 @@ pub fn text_end(message: &[u8], at: usize) -> usize
     }
     let start = at + 3;
     let next = start + n;
-    if are_chars_around(message, start, n) {
-        return next;
-    }
-    if are_chars(&message[start..next]) {
+    if are_chars_from(message, start, n) {
         return next;
     }
     0
-}
-
-// Whether every byte is below 128, one by one: the way for keys, which are short.
-fn are_letters(bytes: &[u8]) -> bool
-    ensures { λ r. ⌜ r ≡ all (λ b. leb b 127) (now (bytes .entry)) ⌝ }
-{
-    let mut i = 0;
-    while i < bytes.len() {
-        if 127 < bytes[i] {
-            return false;
-        }
-        i += 1;
-    }
-    true
 }
 
 // A key whose length stands under `U`, all below 128.
@@ -262,8 +265,20 @@ pub fn key_end(message: &[u8], at: usize) -> usize
     }
     let start = at + 2;
     let next = start + n;
-    if are_letters(&message[start..next]) {
+    if are_chars_singly(&message[start..next]) {
         return next;
     }
     0
+}
+
+// A member's value in an object: a scalar, or a text.
+pub fn value_end(message: &[u8], at: usize) -> usize
+    requires { ⌜ (at ≤ length (now message)) × (length (now message) ≤ limit) ⌝ }
+    ensures { λ r. ⌜ (0 < r → ValueEnds (now (message .entry)) at r) ⌝ }
+{
+    let end = scalar_value_end(message, at);
+    if 0 < end {
+        return end;
+    }
+    text_end(message, at)
 }

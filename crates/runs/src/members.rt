@@ -1,11 +1,12 @@
 // Members one after another: each loop reads one sort of them, and stops where another begins.
+use crate::ends::LONGEST;
 use crate::ends::alike_end;
 use crate::ends::key_end;
 use crate::ends::scalar_end;
-use crate::ends::scalar_value_end;
 use crate::ends::size_of;
 use crate::ends::sizes;
 use crate::ends::text_end;
+use crate::ends::value_end;
 use format::answers::Kind;
 use format::marks::Mark;
 use format::marks::TEXT;
@@ -14,7 +15,6 @@ use tokens::entry::Entry;
 use tokens::entry::put;
 ghost use mathlib.Core.Path.{_≡_};
 ghost use Prim.Native.Nat.{_+_, _-_, _≤_};
-ghost use lib.ListN.{length};
 ghost use Rattle.format.specs.Limits.{limit};
 ghost use Rattle.format.specs.Marks.{bracket, brace as braceOpening, openingOf};
 ghost use Rattle.format.specs.Tokens.{uncounted};
@@ -23,7 +23,7 @@ ghost use Rattle.format.specs.Rows.{rowOf};
 ghost use Rattle.rows.specs.Row.{store as storeIn};
 ghost use Rattle.tokens.specs.Answers.{Here};
 ghost use Rattle.runs.specs.Ends.{Sized};
-ghost use Rattle.runs.specs.Runs.{PassedIn, RunEnds};
+ghost use Rattle.runs.specs.Runs.{RunMeets, valueStart, valueToken};
 
 // The place after the members read, the row after theirs, and how many they are.
 pub struct Run {
@@ -75,8 +75,7 @@ fn alike(
     first: usize,
 ) -> Run
     requires { ⌜ Here (now message) lent start first × Sized mark n ⌝ }
-    ensures passed { λ r. ⌜ PassedIn (now (message .entry)) lent bracket start first (now (rows .entry)) r (now (rows .exit)) ⌝ }
-    ensures bounds { λ r. ⌜ RunEnds most start (length (now (message .entry))) lent r ⌝ }
+    ensures { λ r. ⌜ RunMeets r (now (message .entry)) lent bracket most start first (now (rows .entry)) (now (rows .exit)) ⌝ }
 {
     let mut at = start;
     let mut row = first;
@@ -108,8 +107,7 @@ fn scalars(
     first: usize,
 ) -> Run
     requires { ⌜ Here (now message) lent start first ⌝ }
-    ensures passed { λ r. ⌜ PassedIn (now (message .entry)) lent bracket start first (now (rows .entry)) r (now (rows .exit)) ⌝ }
-    ensures bounds { λ r. ⌜ RunEnds most start (length (now (message .entry))) lent r ⌝ }
+    ensures { λ r. ⌜ RunMeets r (now (message .entry)) lent bracket most start first (now (rows .entry)) (now (rows .exit)) ⌝ }
 {
     if !Mark(byte_at(message, start)).is_scalar() {
         return Run {
@@ -149,8 +147,7 @@ fn texts(
     first: usize,
 ) -> Run
     requires { ⌜ Here (now message) lent start first ⌝ }
-    ensures passed { λ r. ⌜ PassedIn (now (message .entry)) lent bracket start first (now (rows .entry)) r (now (rows .exit)) ⌝ }
-    ensures bounds { λ r. ⌜ RunEnds most start (length (now (message .entry))) lent r ⌝ }
+    ensures { λ r. ⌜ RunMeets r (now (message .entry)) lent bracket most start first (now (rows .entry)) (now (rows .exit)) ⌝ }
 {
     let mut at = start;
     let mut row = first;
@@ -172,95 +169,21 @@ fn texts(
     Run { at, row, count }
 }
 
-// Keys, each with a scalar.
-fn scalar_pairs(
-    message: &[u8],
-    rows: &mut [u32],
-    lent: usize,
-    most: usize,
-    start: usize,
-    first: usize,
-) -> Run
-    requires { ⌜ Here (now message) lent start first ⌝ }
-    ensures passed { λ r. ⌜ PassedIn (now (message .entry)) lent braceOpening start first (now (rows .entry)) r (now (rows .exit)) ⌝ }
-    ensures bounds { λ r. ⌜ RunEnds most start (length (now (message .entry))) lent r ⌝ }
+// The row of a text or a scalar that stands at `at`, under this mark, and ends before `next`.
+fn put_value(rows: &mut [u32], row: usize, mark: u8, at: usize, next: usize)
+    requires { ⌜ (row ≤ at) × (valueStart mark at ≤ next) × (next ≤ limit) ⌝ }
+    ensures { λ _. ⌜ now (rows .exit) ≡ storeIn (now (rows .entry)) row (rowOf (valueToken mark at next) (row + 1)) ⌝ }
 {
-    let mut at = start;
-    let mut row = first;
-    let mut count = 0;
-    while count < most {
-        let below = row + 1;
-        if lent <= below {
-            return Run { at, row, count };
-        }
-        let value = key_end(message, at);
-        if value == 0 {
-            return Run { at, row, count };
-        }
-        let next = scalar_value_end(message, value);
-        if next == 0 {
-            return Run { at, row, count };
-        }
-        let letters = at + 2;
-        let payload = value + 1;
-        put_alone(rows, row, Kind::Key, TEXT, at, letters, value);
-        put_alone(
-            rows,
-            below,
-            Kind::Scalar,
-            message[value],
-            value,
-            payload,
-            next,
-        );
-        at = next;
-        row = below + 1;
-        count += 1;
+    if mark == TEXT {
+        let letters = at + 3;
+        put_alone(rows, row, Kind::Text, TEXT, at, letters, next);
+    } else {
+        let payload = at + 1;
+        put_alone(rows, row, Kind::Scalar, mark, at, payload, next);
     }
-    Run { at, row, count }
 }
 
-// Keys, each with a text.
-fn text_pairs(
-    message: &[u8],
-    rows: &mut [u32],
-    lent: usize,
-    most: usize,
-    start: usize,
-    first: usize,
-) -> Run
-    requires { ⌜ Here (now message) lent start first ⌝ }
-    ensures passed { λ r. ⌜ PassedIn (now (message .entry)) lent braceOpening start first (now (rows .entry)) r (now (rows .exit)) ⌝ }
-    ensures bounds { λ r. ⌜ RunEnds most start (length (now (message .entry))) lent r ⌝ }
-{
-    let mut at = start;
-    let mut row = first;
-    let mut count = 0;
-    while count < most {
-        let below = row + 1;
-        if lent <= below {
-            return Run { at, row, count };
-        }
-        let value = key_end(message, at);
-        if value == 0 {
-            return Run { at, row, count };
-        }
-        let next = text_end(message, value);
-        if next == 0 {
-            return Run { at, row, count };
-        }
-        let letters = at + 2;
-        let payload = value + 3;
-        put_alone(rows, row, Kind::Key, TEXT, at, letters, value);
-        put_alone(rows, below, Kind::Text, TEXT, value, payload, next);
-        at = next;
-        row = below + 1;
-        count += 1;
-    }
-    Run { at, row, count }
-}
-
-// Members of an object.
+// Members of an object: keys, each with a scalar or a text.
 fn pairs(
     message: &[u8],
     rows: &mut [u32],
@@ -270,14 +193,32 @@ fn pairs(
     first: usize,
 ) -> Run
     requires { ⌜ Here (now message) lent start first ⌝ }
-    ensures passed { λ r. ⌜ PassedIn (now (message .entry)) lent braceOpening start first (now (rows .entry)) r (now (rows .exit)) ⌝ }
-    ensures bounds { λ r. ⌜ RunEnds most start (length (now (message .entry))) lent r ⌝ }
+    ensures { λ r. ⌜ RunMeets r (now (message .entry)) lent braceOpening most start first (now (rows .entry)) (now (rows .exit)) ⌝ }
 {
-    let run = scalar_pairs(message, rows, lent, most, start, first);
-    if 0 < run.count {
-        return run;
+    let mut at = start;
+    let mut row = first;
+    let mut count = 0;
+    while count < most {
+        let below = row + 1;
+        if lent <= below {
+            return Run { at, row, count };
+        }
+        let value = key_end(message, at);
+        if value == 0 {
+            return Run { at, row, count };
+        }
+        let next = value_end(message, value);
+        if next == 0 {
+            return Run { at, row, count };
+        }
+        let letters = at + 2;
+        put_alone(rows, row, Kind::Key, TEXT, at, letters, value);
+        put_value(rows, below, message[value], value, next);
+        at = next;
+        row = below + 1;
+        count += 1;
     }
-    text_pairs(message, rows, lent, most, run.at, run.row)
+    Run { at, row, count }
 }
 
 // Members of an array.
@@ -290,15 +231,14 @@ fn values(
     first: usize,
 ) -> Run
     requires { ⌜ Here (now message) lent start first ⌝ }
-    ensures passed { λ r. ⌜ PassedIn (now (message .entry)) lent bracket start first (now (rows .entry)) r (now (rows .exit)) ⌝ }
-    ensures bounds { λ r. ⌜ RunEnds most start (length (now (message .entry))) lent r ⌝ }
+    ensures { λ r. ⌜ RunMeets r (now (message .entry)) lent bracket most start first (now (rows .entry)) (now (rows .exit)) ⌝ }
 {
     let mark = byte_at(message, start);
     if mark == TEXT {
         return texts(message, rows, lent, most, start, first);
     }
     let n = size_of(mark);
-    if 9 < n {
+    if LONGEST < n {
         return scalars(message, rows, lent, most, start, first);
     }
     let run = alike(message, rows, lent, most, mark, n, start, first);
@@ -312,7 +252,8 @@ fn values(
     }
 }
 
-// Members of an array or object, of one sort, from `start` and `first` on: `most` of them at most, and as many as rows are lent for.
+// Members of an array or object, of one sort, from `start` and `first` on: `most` of them at most, and no more than rows are lent for;
+// there may be none.
 pub fn several(
     message: &[u8],
     rows: &mut [u32],
@@ -323,8 +264,7 @@ pub fn several(
     first: usize,
 ) -> Run
     requires { ⌜ Here (now message) lent start first ⌝ }
-    ensures passed { λ r. ⌜ PassedIn (now (message .entry)) lent (openingOf brace) start first (now (rows .entry)) r (now (rows .exit)) ⌝ }
-    ensures bounds { λ r. ⌜ RunEnds most start (length (now (message .entry))) lent r ⌝ }
+    ensures { λ r. ⌜ RunMeets r (now (message .entry)) lent (openingOf brace) most start first (now (rows .entry)) (now (rows .exit)) ⌝ }
 {
     if brace {
         return pairs(message, rows, lent, most, start, first);

@@ -27,5 +27,5 @@ key-end-spec =
     (λ c. search needs)
     (λ c. search needs)
     (λ c κs. search needs)
-    (λ c h. key-ends _ _ (omega arith) (c .before .before .before .before .shared-slice-known3 .given _ .fits) (omega arith) (sym (c .before .are-letters .ensures ∙ ap (all _) (part-is _ _ _)) ∙ c .if4 .taken))
+    (λ c h. key-ends _ _ (omega arith) (c .before .before .before .before .shared-slice-known3 .given _ .fits) (omega arith) (sym (c .before .are-chars-singly .ensures ∙ ap (all _) (part-is _ _ _)) ∙ c .if4 .taken))
     (λ c h. absurd (omega arith)))

@@ -1,10 +1,8 @@
--- `text_end`: `S`, `U`, a length and bytes below 128, seen with those around them or alone. Assumes nothing.
+-- `text_end`: `S`, `U`, a length and bytes below 128. Assumes nothing.
 use Prim.Native.Nat.{_+_}
-use mathlib.Core.Path.{sym, _∙_, ap}
+use mathlib.Core.Path.{sym, _∙_}
 use native.Mathlib.Omega.{arith}
 use borrow.Author.Needs.{needs}
-use Rattle.format.specs.Conditions.{all}
-use Rattle.format.proofs.Parts.{part-is}
 use Rattle.runs.proofs.EndLaws.{text-ends}
 use Rattle.runs.proofs.ends.text_end.Statement.{statement}
 use Rattle.runs.proofs.ends.text_end.Tie as tie
@@ -27,10 +25,5 @@ text-end-spec =
     (λ c. search needs)
     (λ c. search needs)
     (λ c κs. search needs)
-    (λ c h. text-ends _ _ (omega arith) (omega arith) (c .before .before .before .shared-slice-known4 .given _ .fits) (omega arith) (c .before .are-chars-around .ensures (c .if5 .taken)))
-    (λ c. search needs)
-    (λ c. search needs)
-    (λ c. search needs)
-    (λ c κs. search needs)
-    (λ c h. text-ends _ _ (omega arith) (omega arith) (c .before .before .before .before .before .before .shared-slice-known4 .given _ .fits) (omega arith) (sym (c .before .are-chars .ensures ∙ ap (all _) (part-is _ _ _)) ∙ c .if6 .taken))
+    (λ c h. text-ends _ _ (omega arith) (omega arith) (c .before .before .before .shared-slice-known4 .given _ .fits) (omega arith) (sym (c .before .are-chars-from .ensures) ∙ c .if5 .taken))
     (λ c h. absurd (omega arith)))

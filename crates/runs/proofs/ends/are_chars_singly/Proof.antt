@@ -1,4 +1,4 @@
--- `are_letters`: each byte before the one reached is a char. Assumes nothing.
+-- `are_chars_singly`: each byte before the one reached is a char. Assumes nothing.
 use Prim.Native.Nat.{_-_, _≤_}
 use mathlib.Core.Path.{_≡_, refl, sym, _∙_}
 use native.Mathlib.Omega.{arith}
@@ -7,8 +7,8 @@ use lib.Dec.{leb}
 use borrow.Author.Tests.{le-leb, lt-leb}
 use Rattle.format.specs.Conditions.{all}
 use Rattle.scan.proofs.All.{all-on, all-off, all-end}
-use Rattle.runs.proofs.ends.are_letters.Statement.{statement}
-use Rattle.runs.proofs.ends.are_letters.Tie as tie
+use Rattle.runs.proofs.ends.are_chars_singly.Statement.{statement}
+use Rattle.runs.proofs.ends.are_chars_singly.Tie as tie
 
 abbrev Inv-loop : tie.InvT-loop
 Inv-loop bytes i₀ i = (i ≤ length bytes) × (all (λ b. leb b 127) bytes ≡ all (λ b. leb b 127) (drop i bytes))
@@ -16,8 +16,8 @@ Inv-loop bytes i₀ i = (i ≤ length bytes) × (all (λ b. leb b 127) bytes ≡
 abbrev μ-loop : tie.MeasureT-loop
 μ-loop bytes i₀ i = length bytes - i
 
-pub are-letters-spec : {M : Type 1} → statement M
-are-letters-spec =
+pub are-chars-singly-spec : {M : Type 1} → statement M
+are-chars-singly-spec =
     tie.close
     (tie.spec
     Inv-loop
