@@ -11,7 +11,7 @@ use scan::bytes::stands;
 use scan::integers::Parsed;
 use scan::integers::number;
 ghost use mathlib.Core.Path.{_≡_};
-ghost use Prim.Native.Nat.{ℕ, _+_, _≤_};
+ghost use Prim.Native.Nat.{ℕ, _≤_};
 ghost use lib.ListN.{length};
 ghost use Rattle.format.specs.Outcome.{done};
 ghost use Rattle.format.specs.Marks.{openingOf};

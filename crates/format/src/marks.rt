@@ -1,4 +1,4 @@
-// The marks. The bytes that go with a mark are said once, in `Mark::traits`, and used by all.
+// The marks. The bytes that go with a mark are said in `Mark::traits`; where a crate above says them again, they are proved equal.
 ghost use mathlib.Core.Path.{_≡_};
 ghost use Rattle.format.specs.Marks.{openingOf, opens, closes, isInteger, isSigned, isType, isScalar, isPlainLeaf, isLeaf, width, leafWidth, letterOf};
 ghost use Rattle.format.specs.Traits.{traitsOf};

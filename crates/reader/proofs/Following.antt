@@ -1,6 +1,6 @@
 -- Members that follow: one as several, several in a loop, and a plain container that opens in an array. Assumes nothing.
 use Prim.Native.Nat.{ℕ, zero, suc, _+_, _-_, _≤_, _<_}
-use mathlib.Core.Path.{_≡_, refl, sym, ap, _∙_}
+use mathlib.Core.Path.{_≡_, refl, sym, _∙_}
 use mathlib.Core.List.{List}
 use native.Mathlib.Omega.{arith}
 use lib.ListN.{length, getD}
@@ -11,7 +11,7 @@ use Rattle.format.specs.Conditions.{if_then_else_, among}
 use Rattle.format.specs.Tokens.{Forest, size, members}
 use Rattle.format.specs.Rows.{rows}
 use Rattle.format.specs.Bytes.{skip}
-use Rattle.format.specs.Sequences.{Reader, _⨾_, repeat, until, spaced}
+use Rattle.format.specs.Sequences.{Reader, until, spaced}
 use Rattle.format.specs.Containers.{items}
 use Rattle.format.specs.Read.{valueBy, nested}
 use Rattle.format.proofs.Noops.{skip-here}

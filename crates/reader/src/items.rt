@@ -11,7 +11,6 @@ use tokens::scalars::key;
 use tokens::scalars::scalar;
 use tokens::scalars::text;
 ghost use mathlib.Core.Path.{_≡_};
-ghost use Prim.Native.Nat.{_+_};
 ghost use lib.ListN.{length};
 ghost use Rattle.format.specs.Marks.{openingOf};
 ghost use Rattle.format.specs.Read.{valueBy};

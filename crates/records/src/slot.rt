@@ -5,7 +5,7 @@ use crate::leaves::Seen;
 use format::answers::Located;
 use format::limits::LIMIT;
 ghost use mathlib.Core.Path.{_≡_};
-ghost use Prim.Native.Nat.{ℕ, _+_, _*_, _^_, _≤_, _<_};
+ghost use Prim.Native.Nat.{ℕ, _^_, _≤_, _<_};
 ghost use lib.ListN.{length};
 ghost use Rattle.format.specs.Limits.{limit};
 ghost use Rattle.format.specs.Outcome.{done};

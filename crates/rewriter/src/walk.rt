@@ -10,7 +10,7 @@ use writer::kinds::TABLE;
 use writer::kinds::is_single;
 ghost use mathlib.Core.Path.{_≡_};
 ghost use mathlib.Core.Bool.{true};
-ghost use Prim.Native.Nat.{_+_, _*_, _-_, _≤_, _<_};
+ghost use Prim.Native.Nat.{_+_, _*_, _-_, _≤_};
 ghost use lib.Dec.{eqb};
 ghost use Rattle.format.specs.Tokens.{kindNumber, table as tableKind};
 ghost use Rattle.format.specs.HouseForm.{token as tokenIn, written, house};

@@ -1,11 +1,11 @@
 -- Rows stored one after another: in any order, one run after another, and then zeros. Assumes nothing.
-use mathlib.Core.Path.{_≡_, refl, sym, ap, _∙_}
+use mathlib.Core.Path.{_≡_, refl, ap, _∙_}
 use mathlib.Core.Bool.{Bool, true, false}
 use mathlib.Core.List.{List, [], _∷_, _++_}
-use Prim.Native.Nat.{ℕ, zero, suc, _+_, _-_, _*_, _/_, _<_, _≤_}
+use Prim.Native.Nat.{ℕ, suc, _+_, _-_, _*_, _/_, _<_, _≤_}
 use native.Mathlib.Omega.{arith}
-use native.Mathlib.Nat.{zero-add, sub-zero, zero-sub, suc-sub-suc}
-use lib.ListN.{length, set, drop, length-replicate}
+use native.Mathlib.Nat.{zero-add}
+use lib.ListN.{length, set, drop}
 use lib.Seq.{sets, set-comm, length-sets, sets-eq, take-append-seam}
 use lib.Dec.{ltb}
 use borrow.Author.Tests.{lt-ltb}

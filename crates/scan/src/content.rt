@@ -1,4 +1,4 @@
-// The content that goes with a mark: one check for scalars, texts, packed arrays and tables.
+// The content that goes with a mark: one check for scalars, texts and tables.
 use crate::json::is_number;
 use crate::text::is_text;
 use format::marks::CHAR;

@@ -13,7 +13,7 @@ use tokens::Step;
 use tokens::scalars::key;
 ghost use mathlib.Core.Path.{_≡_};
 ghost use mathlib.Core.List.{List};
-ghost use Prim.Native.Nat.{ℕ, _+_, _≤_, _<_};
+ghost use Prim.Native.Nat.{ℕ, _≤_, _<_};
 ghost use lib.ListN.{length, getD};
 ghost use Rattle.format.specs.Marks.{Opening, bracket, brace};
 ghost use Rattle.format.specs.Sequences.{Reader};

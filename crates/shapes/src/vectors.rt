@@ -12,7 +12,7 @@ use format::marks::TYPE;
 use scan::integers::Parsed;
 use scan::integers::integer;
 ghost use mathlib.Core.Path.{_≡_};
-ghost use Prim.Native.Nat.{_+_, _*_, _≤_, _<_};
+ghost use Prim.Native.Nat.{_+_, _*_, _≤_};
 ghost use lib.ListN.{length};
 ghost use Rattle.format.specs.Limits.{limit, dimensionLimit};
 ghost use Rattle.format.specs.Sequences.{repeat, _⨾_};

@@ -3,7 +3,7 @@ use mathlib.Core.Path.{ap}
 use mathlib.Core.Bool.{false≢true}
 use native.Mathlib.Omega.{arith}
 use borrow.Author.Needs.{needs}
-use borrow.Author.Tests.{not-true, not-false}
+use borrow.Author.Tests.{not-false}
 use Rattle.format.specs.Marks.{openingOf}
 use Rattle.reader.proofs.values.opens_plain.Statement.{statement}
 use Rattle.reader.proofs.values.opens_plain.Tie as tie
