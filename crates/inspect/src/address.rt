@@ -3,6 +3,7 @@ use crate::dump;
 use crate::held;
 use crate::lists;
 use crate::payloads;
+use crate::reasons;
 use format::answers::Located;
 use grid::ask;
 use grid::numbers::least;
@@ -11,7 +12,6 @@ use grid::shape;
 use show::block::line;
 use show::block::text;
 use show::numbers::number;
-use show::scalars::refused;
 
 // Where a slot stands.
 fn place(first: usize, width: usize, out: &mut [u8], at: usize) -> usize {
@@ -45,6 +45,21 @@ fn found(
     dump::around(out, ended, message, first, width, paint)
 }
 
+// An address, as it was asked for.
+fn asked(
+    rows: &[u32],
+    row: usize,
+    leaf: usize,
+    indexes: &[usize],
+    count: usize,
+    out: &mut [u8],
+    at: usize,
+) -> usize {
+    let begun = text(out, at, b"slot ");
+    let shown = payloads::address(rows, row, leaf, indexes, count, out, begun);
+    text(out, shown, b": ")
+}
+
 // One address.
 fn one(
     message: &[u8],
@@ -57,13 +72,10 @@ fn one(
     out: &mut [u8],
     at: usize,
 ) -> usize {
-    let begun = text(out, at, b"slot ");
-    let shown = payloads::address(rows, row, leaf, indexes, count, out, begun);
-    let colon = text(out, shown, b": ");
+    let colon = asked(rows, row, leaf, indexes, count, out, at);
     match ask::located(rows, narrow(message.len()), row, leaf, indexes, count) {
         Located::Refused(refusal) => {
-            let told = refused(out, colon, refusal);
-            line(out, told)
+            reasons::refused(rows, row, leaf, indexes, count, refusal, out, colon)
         }
         Located::At(first, width) => found(
             message,
@@ -99,8 +111,8 @@ fn named(
     at
 }
 
-// All slots of one record.
-fn record(
+// All slots of one record that is there.
+fn slots(
     message: &[u8],
     rows: &[u32],
     row: usize,
@@ -120,6 +132,24 @@ fn record(
     next
 }
 
+// All slots of one record; one refusal where it isn't there.
+fn record(
+    message: &[u8],
+    rows: &[u32],
+    row: usize,
+    indexes: &[usize],
+    count: usize,
+    paint: bool,
+    out: &mut [u8],
+    at: usize,
+) -> usize {
+    if reasons::are_inside(rows, row, indexes, count) {
+        return slots(message, rows, row, indexes, count, paint, out, at);
+    }
+    let colon = asked(rows, row, 0, indexes, count, out, at);
+    reasons::refused(rows, row, 0, indexes, count, reasons::NOT_THERE, out, colon)
+}
+
 // A row that is not held, or that lacks some below it.
 fn missing(rows: &[u32], row: usize, out: &mut [u8], at: usize) -> usize {
     let begun = text(out, at, b"row ");
@@ -128,6 +158,15 @@ fn missing(rows: &[u32], row: usize, out: &mut [u8], at: usize) -> usize {
         return text(out, shown, b": not all of its rows held\n");
     }
     text(out, shown, b": not held\n")
+}
+
+// A leaf in the address of an element of a packed array, which has none.
+fn without_leaf(row: usize, leaf: usize, out: &mut [u8], at: usize) -> usize {
+    let begun = text(out, at, b"row ");
+    let shown = number(out, begun, row);
+    let told = text(out, shown, b" is a packed array: its address has no LEAF ");
+    let given = number(out, told, leaf);
+    line(out, given)
 }
 
 // The address of two lists of numbers: a row, or a row and a leaf row; and the indexes.
@@ -150,6 +189,9 @@ fn listed(
         return record(message, rows, row, &indexes, count, paint, out, at);
     }
     let leaf = lists::number(place, 1);
+    if 1 < lists::count(place) && shape::is_packed(rows, row) {
+        return without_leaf(row, leaf, out, at);
+    }
     one(message, rows, row, leaf, &indexes, count, paint, out, at)
 }
 

@@ -1,9 +1,46 @@
 // What the command line asks for.
-use crate::lists::is_list;
+use crate::lists;
 use crate::words;
 use crate::words::Word;
 use grid::numbers::less;
 use grid::numbers::sum;
+
+// What is wrong with an argument: nothing.
+pub const FINE: usize = 0;
+
+// An option that there is not.
+pub const UNKNOWN: usize = 1;
+
+// Longer than the program's room.
+pub const LONG: usize = 2;
+
+// An option that is taken once.
+pub const TWICE: usize = 3;
+
+// No path of names after its option.
+pub const NO_PATH: usize = 4;
+
+// A word of an address that is not there, is no list, has too many numbers or a number with too many digits.
+pub const NO_WORD: usize = 5;
+
+pub const NO_LIST: usize = 6;
+
+pub const MANY_NUMBERS: usize = 7;
+
+pub const LONG_NUMBER: usize = 8;
+
+// House form of several files, or with a view.
+pub const HOUSE_FILES: usize = 9;
+
+pub const HOUSE_VIEWS: usize = 10;
+
+// The digits that a number of an address may have.
+const DIGITS: usize = 18;
+
+// The numbers of an address before its indexes, and the indexes.
+const ROWS: usize = 2;
+
+const INDEXES: usize = 8;
 
 // The views, and the places among the arguments of the words that an address and a path of names take; 0 where none is asked for.
 pub struct Asked {
@@ -15,12 +52,15 @@ pub struct Asked {
     pub help: bool,
     pub address: usize,
     pub name: usize,
-    // The place of the first argument that is bad; 0 where none is.
+    // The place of the first argument that is bad; 0 where none is. And what is wrong with it.
     pub bad: usize,
+    pub why: usize,
     // The files named so far.
     pub files: usize,
     // The words that are still taken by the option before.
     pub skip: usize,
+    // Whether all that follows are files.
+    pub ended: bool,
 }
 
 // Nothing yet.
@@ -35,8 +75,10 @@ pub fn none() -> Asked {
         address: 0,
         name: 0,
         bad: 0,
+        why: FINE,
         files: 0,
         skip: 0,
+        ended: false,
     }
 }
 
@@ -47,40 +89,97 @@ fn option(i: usize) -> Word {
     words::of(&text[..n])
 }
 
-// Whether argument i is a list of numbers.
-fn lists(i: usize) -> bool {
+// Whether argument i is too long for the program's room.
+fn is_long(i: usize) -> bool {
     let mut text = io::buffer();
-    let n = os::arg(i, &mut text);
-    is_list(&text[..n])
+    os::arg(i, &mut text);
+    os::errno() == libc::ENAMETOOLONG
 }
 
-// Argument i is bad; the first one counts.
-fn bad(mut asked: Asked, i: usize) -> Asked {
-    if asked.bad == 0 {
+// The first of so many arguments that is too long; 0 where none is.
+fn first_long(count: usize) -> usize {
+    let mut i: usize = 1;
+    while i < count {
+        if is_long(i) {
+            return i;
+        }
+        i += 1;
+    }
+    0
+}
+
+// Whether a list has a number with more digits than are taken.
+fn has_long_number(list: &[u8]) -> bool {
+    let mut digits: usize = 0;
+    let mut at: usize = 0;
+    while at < list.len() {
+        digits = sum(digits, 1);
+        if list[at] == b',' {
+            digits = 0;
+        }
+        if DIGITS < digits {
+            return true;
+        }
+        at += 1;
+    }
+    false
+}
+
+// What is wrong with a word that must be a list of at most so many numbers.
+fn list_fault(word: &[u8], most: usize) -> usize {
+    if !lists::is_list(word) {
+        return NO_LIST;
+    }
+    if most < lists::count(word) {
+        return MANY_NUMBERS;
+    }
+    if has_long_number(word) {
+        return LONG_NUMBER;
+    }
+    FINE
+}
+
+// What is wrong with argument i of so many, which must be such a list.
+fn list_at(i: usize, count: usize, most: usize) -> usize {
+    if count <= i {
+        return NO_WORD;
+    }
+    let mut text = io::buffer();
+    let n = os::arg(i, &mut text);
+    list_fault(&text[..n], most)
+}
+
+// What is wrong, if anything is, with argument i; the first bad one counts.
+fn judged(mut asked: Asked, i: usize, why: usize) -> Asked {
+    if asked.bad == 0 && why != FINE {
         asked.bad = i;
+        asked.why = why;
     }
     asked
 }
 
 // An address, at argument i of so many: two lists must follow.
 fn address(mut asked: Asked, i: usize, count: usize) -> Asked {
-    asked.address = sum(i, 1);
     asked.skip = 2;
-    if less(count, i) < 3 {
-        return bad(asked, i);
+    if asked.address != 0 {
+        return judged(asked, i, TWICE);
     }
-    if lists(sum(i, 1)) && lists(sum(i, 2)) {
-        return asked;
-    }
-    bad(asked, i)
+    let rows = sum(i, 1);
+    let indexes = sum(i, 2);
+    asked.address = rows;
+    let first = judged(asked, rows, list_at(rows, count, ROWS));
+    judged(first, indexes, list_at(indexes, count, INDEXES))
 }
 
 // A path of names, at argument i of so many: a word must follow.
 fn name(mut asked: Asked, i: usize, count: usize) -> Asked {
-    asked.name = sum(i, 1);
     asked.skip = 1;
+    if asked.name != 0 {
+        return judged(asked, i, TWICE);
+    }
+    asked.name = sum(i, 1);
     if less(count, i) < 2 {
-        return bad(asked, i);
+        return judged(asked, i, NO_PATH);
     }
     asked
 }
@@ -116,6 +215,25 @@ fn file(mut asked: Asked) -> Asked {
     asked
 }
 
+// From here on all are files.
+fn end(mut asked: Asked) -> Asked {
+    asked.ended = true;
+    asked
+}
+
+// What is asked for with the option or file at argument i of so many.
+fn with_word(asked: Asked, i: usize, count: usize) -> Asked {
+    let w = option(i);
+    match w {
+        Word::At => address(asked, i, count),
+        Word::Name => name(asked, i, count),
+        Word::End => end(asked),
+        Word::File => file(asked),
+        Word::Unknown => judged(asked, i, UNKNOWN),
+        _ => view(asked, w),
+    }
+}
+
 // What is asked for with argument i of so many.
 pub fn with(mut asked: Asked, i: usize, count: usize) -> Asked {
     let skip = asked.skip;
@@ -123,25 +241,37 @@ pub fn with(mut asked: Asked, i: usize, count: usize) -> Asked {
         asked.skip = skip - 1;
         return asked;
     }
-    let w = option(i);
-    match w {
-        Word::At => address(asked, i, count),
-        Word::Name => name(asked, i, count),
-        Word::File => file(asked),
-        Word::Unknown => bad(asked, i),
-        _ => view(asked, w),
+    if asked.ended {
+        return file(asked);
     }
+    with_word(asked, i, count)
+}
+
+// Whether a view is asked for.
+fn has_view(asked: Asked) -> bool {
+    asked.rows || !is_plain(asked)
+}
+
+// What all arguments ask for, where house form is taken of one file and with no view.
+fn combined(asked: Asked) -> Asked {
+    if asked.house && 1 < asked.files {
+        return judged(asked, 1, HOUSE_FILES);
+    }
+    if asked.house && has_view(asked) {
+        return judged(asked, 1, HOUSE_VIEWS);
+    }
+    asked
 }
 
 // What all arguments ask for.
 pub fn all(count: usize) -> Asked {
-    let mut asked = none();
+    let mut asked = judged(none(), first_long(count), LONG);
     let mut i: usize = 1;
     while i < count {
         asked = with(asked, i, count);
         i += 1;
     }
-    asked
+    combined(asked)
 }
 
 // Whether no view is asked for by name: then the rows are shown.

@@ -8,11 +8,15 @@ use show::block::line;
 use show::block::repeated;
 use show::block::spaces;
 use show::block::text;
+use show::numbers::counted;
 use show::numbers::hex_byte;
 use show::numbers::right;
 
 // The bytes of a line.
 pub const WIDE: usize = 16;
+
+// The bytes of the lines that are marked of one part.
+const MARKED: usize = 64;
 
 // The columns of a place.
 const PLACE: usize = 8;
@@ -143,7 +147,67 @@ fn carets(out: &mut [u8], at: usize, first: usize, bytes: usize, paint: bool) ->
     line(out, ended)
 }
 
-// The bytes around a part: the line that it starts in with marks under it, the line before and the line after.
+// One line, with marks under those of its bytes that belong to a part.
+fn marked_line(
+    out: &mut [u8],
+    at: usize,
+    message: &[u8],
+    start: usize,
+    first: usize,
+    end: usize,
+    paint: bool,
+) -> usize {
+    let here = full_line(out, at, message, start);
+    let column = less(first, start);
+    let stop = least(less(end, start), WIDE);
+    carets(out, here, column, less(stop, column), paint)
+}
+
+// The lines from one on, before a place, with marks under a part.
+fn marked(
+    out: &mut [u8],
+    at: usize,
+    message: &[u8],
+    start: usize,
+    stop: usize,
+    first: usize,
+    end: usize,
+    paint: bool,
+) -> usize {
+    let mut next = at;
+    let mut i = start;
+    while i < stop {
+        next = marked_line(out, next, message, i, first, end, paint);
+        let after = sum(i, WIDE);
+        if after <= i {
+            return next;
+        }
+        i = after;
+    }
+    next
+}
+
+// What follows the marked lines of a part: the line after it, or how many more bytes it has.
+fn following(out: &mut [u8], at: usize, message: &[u8], stop: usize, end: usize) -> usize {
+    if stop < end {
+        let begun = spaces(out, at, BEFORE);
+        let told = text(out, begun, b"and ");
+        let shown = counted(out, told, less(end, stop), b" more byte");
+        return line(out, shown);
+    }
+    let last = less(stop, 1);
+    let column = last % WIDE;
+    let after = sum(last - column, WIDE);
+    lines(
+        out,
+        at,
+        message,
+        after,
+        least(sum(after, WIDE), message.len()),
+    )
+}
+
+// The bytes around a part: its lines with marks under it, the line before and the line after. Of a longer part the first lines.
 pub fn around(
     out: &mut [u8],
     at: usize,
@@ -154,15 +218,9 @@ pub fn around(
 ) -> usize {
     let column = first % WIDE;
     let start = first - column;
+    let end = sum(first, width);
+    let stop = least(end, sum(start, MARKED));
     let before = lines(out, at, message, less(start, WIDE), start);
-    let here = full_line(out, before, message, start);
-    let marked = carets(out, here, column, least(width, WIDE - column), paint);
-    let after = sum(start, WIDE);
-    lines(
-        out,
-        marked,
-        message,
-        after,
-        least(sum(after, WIDE), message.len()),
-    )
+    let shown = marked(out, before, message, start, stop, first, end, paint);
+    following(out, shown, message, stop, end)
 }

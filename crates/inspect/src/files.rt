@@ -4,9 +4,62 @@ use crate::arguments::Asked;
 use crate::help;
 use crate::messages;
 use crate::words::is_input;
+use grid::numbers::least;
+use grid::numbers::sum;
 use libc::STDIN_FILENO;
 use show::block::flush;
-use show::block::text;
+use show::quoted::plain;
+
+// What was read: so many bytes, and whether a read failed after them.
+struct Bytes {
+    count: usize,
+    failed: bool,
+}
+
+// Reads until the room is full, the input ends or a read fails.
+fn read(fd: i32, room: &mut [u8]) -> Bytes {
+    let mut count: usize = 0;
+    while count < room.len() {
+        let got = libc::read(fd, &mut room[count..]);
+        let next = sum(count, io::count(got, room));
+        if next <= count {
+            return Bytes {
+                count: count,
+                failed: got < 0,
+            };
+        }
+        count = next;
+    }
+    Bytes {
+        count: count,
+        failed: false,
+    }
+}
+
+// Says why the file of this name can't be read.
+fn fail(name: &[u8], out: &mut [u8]) {
+    let end = plain(out, 0, name);
+    let n = least(end, out.len());
+    os::fail(&out[..n]);
+}
+
+// A message under a name: in house form, or shown.
+fn message_named(
+    name: &[u8],
+    asked: Asked,
+    message: &[u8],
+    rows: &mut [u32],
+    house: &mut [u8],
+    out: &mut [u8],
+) {
+    if asked.house {
+        messages::rewritten(name, message, rows, house, asked.color, out);
+        return;
+    }
+    let named = plain(out, 0, name);
+    let end = messages::shown(message, rows, asked, out, named);
+    flush(out, end);
+}
 
 // The message that can be read from a descriptor, under a name.
 fn message_of(
@@ -18,14 +71,13 @@ fn message_of(
     house: &mut [u8],
     out: &mut [u8],
 ) {
-    let n = io::read_full(fd, message);
-    if asked.house {
-        messages::rewritten(&message[..n], rows, house, out);
+    let input = read(fd, message);
+    if input.failed {
+        fail(name, out);
         return;
     }
-    let named = text(out, 0, name);
-    let end = messages::shown(&message[..n], rows, asked, out, named);
-    flush(out, end);
+    let n = least(input.count, message.len());
+    message_named(name, asked, &message[..n], rows, house, out);
 }
 
 // Standard input.
@@ -39,12 +91,6 @@ fn input(asked: Asked, message: &mut [u8], rows: &mut [u32], house: &mut [u8], o
         house,
         out,
     );
-}
-
-// Whether a descriptor can be read from; a directory's can't.
-fn is_readable(fd: i32) -> bool {
-    let mut nothing = [0u8; 0];
-    0 <= libc::read(fd, &mut nothing)
 }
 
 // The file of this name.
@@ -62,12 +108,7 @@ fn named(
     }
     let fd = os::open_read(name);
     if fd < 0 {
-        os::fail(name);
-        return;
-    }
-    if !is_readable(fd) {
-        os::fail(name);
-        libc::close(fd);
+        fail(name, out);
         return;
     }
     message_of(name, fd, asked, message, rows, house, out);
@@ -131,7 +172,7 @@ pub fn all(message: &mut [u8], rows: &mut [u32], house: &mut [u8], out: &mut [u8
     let count = os::arg_count();
     let asked = arguments::all(count);
     if asked.bad != 0 {
-        help::bad(out, asked.bad);
+        help::bad(out, asked.bad, asked.why);
         return;
     }
     if asked.help {

@@ -1,13 +1,16 @@
 // What is said about the program itself.
+use crate::arguments;
 use libc::STDERR_FILENO;
+use show::block::line;
 use show::block::text;
+use show::quoted::plain;
 
 // How to call the program.
 fn usage(out: &mut [u8], at: usize) -> usize {
     text(
         out,
         at,
-        b"usage: inspect [--rows] [--slots] [--hex] [--at ROW[,LEAF] I[,J..]] [--name A/B/C] [--house] [--color] [--help] [FILE..]\n",
+        b"usage: inspect [--rows] [--slots] [--hex] [--at ROW[,LEAF] I[,J..]] [--name A/B/C] [--color]\n               [FILE..]\n       inspect --house [FILE]\n       inspect --help\n",
     )
 }
 
@@ -16,7 +19,7 @@ fn views(out: &mut [u8], at: usize) -> usize {
     let a = text(
         out,
         at,
-        b"Shows BJData messages of up to 1,048,576 bytes, from files or from standard input; of a message with more than 131,072 rows the first of these.\n\n",
+        b"Shows BJData messages of up to 1,048,576 bytes, from files or from standard input; of a message\nwith more than 131,072 rows the first of these.\n\n",
     );
     let b = text(
         out,
@@ -26,7 +29,7 @@ fn views(out: &mut [u8], at: usize) -> usize {
     let c = text(
         out,
         b,
-        b"  --slots   the slots of each packed array and table, in storage order: first byte, width, address, value\n",
+        b"  --slots   the slots of each packed array and table, in storage order: first byte, width,\n            address, value\n",
     );
     text(
         out,
@@ -35,32 +38,36 @@ fn views(out: &mut [u8], at: usize) -> usize {
     )
 }
 
+// An address and a path of names.
+fn places(out: &mut [u8], at: usize) -> usize {
+    let a = text(
+        out,
+        at,
+        b"  --at ROW[,LEAF] I[,J..]\n            one slot: the row of a packed array, or of a table and of a leaf of its schema; then\n            up to 8 indexes, from 0. A table's row alone: all slots of that record\n",
+    );
+    text(
+        out,
+        a,
+        b"  --name A/B/C\n            the row that names lead to, from the outermost object or table on; a name that has\n            a `/` in it can't be reached\n",
+    )
+}
+
 // The other options.
 fn options(out: &mut [u8], at: usize) -> usize {
     let a = text(
         out,
         at,
-        b"  --at ROW[,LEAF] I[,J..]\n            one slot: the row of a packed array, or of a table and of a leaf of its schema; then the indexes, from 0.\n            A table's row alone: all slots of that record\n",
+        b"  --house   writes the message in house form, and nothing else, to standard output\n  --color   with colour\n  --help    this text; -h too\n  --        all after it are files\n\n",
     );
     let b = text(
         out,
         a,
-        b"  --name A/B/C\n            the row that names lead to, from the outermost object or table on\n",
-    );
-    let c = text(
-        out,
-        b,
-        b"  --house   writes the message in house form, and nothing else, to standard output\n",
-    );
-    let d = text(
-        out,
-        c,
-        b"  --color   with colour\n  --help    this text\n\n",
+        b"A file `-` is standard input. Bytes, rows and indexes are counted from 0; hex digits are used for\nbytes alone. The exit status is always 0.\n\n",
     );
     text(
         out,
-        d,
-        b"A file `-` is standard input. Bytes, rows and indexes are counted from 0; hex digits are used for bytes alone.\n",
+        b,
+        b"  inspect --name alert samples/floor-rows.bjd\n  inspect --at 0,5 17 samples/floor-rows.bjd\n",
     )
 }
 
@@ -68,17 +75,69 @@ fn options(out: &mut [u8], at: usize) -> usize {
 pub fn all(out: &mut [u8], at: usize) -> usize {
     let first = usage(out, at);
     let second = views(out, first);
-    options(out, second)
+    let third = places(out, second);
+    options(out, third)
+}
+
+// What is said of argument i, and the argument.
+fn worded(out: &mut [u8], at: usize, said: &[u8], i: usize) -> usize {
+    let mut word = io::buffer();
+    let n = os::arg(i, &mut word);
+    let told = text(out, at, said);
+    plain(out, told, &word[..n])
+}
+
+// How an address is written.
+fn address(out: &mut [u8], at: usize) -> usize {
+    text(
+        out,
+        at,
+        b"--at takes ROW[,LEAF] and then I[,J..], such as --at 0,5 17; ",
+    )
+}
+
+// What is wrong with argument i, a word of an address.
+fn in_address(out: &mut [u8], at: usize, i: usize, why: usize) -> usize {
+    let begun = address(out, at);
+    match why {
+        arguments::NO_WORD => text(out, begun, b"a word is missing"),
+        arguments::MANY_NUMBERS => worded(out, begun, b"too many numbers: ", i),
+        arguments::LONG_NUMBER => { worded(out, begun, b"a number has more than 18 digits: ", i) }
+        _ => worded(out, begun, b"not understood: ", i),
+    }
+}
+
+// What is wrong with argument i.
+fn fault(out: &mut [u8], at: usize, i: usize, why: usize) -> usize {
+    match why {
+        arguments::UNKNOWN => worded(out, at, b"not understood: ", i),
+        arguments::LONG => text(out, at, b"an argument is longer than 4,096 bytes"),
+        arguments::TWICE => worded(out, at, b"given twice: ", i),
+        arguments::NO_PATH => text(out, at, b"--name needs a path, such as --name alert"),
+        arguments::HOUSE_FILES => text(out, at, b"--house takes one file"),
+        arguments::HOUSE_VIEWS => text(
+            out,
+            at,
+            b"--house goes with none of --rows, --slots, --hex, --at and --name",
+        ),
+        _ => in_address(out, at, i, why),
+    }
+}
+
+// How to call the program, where an option is not known.
+fn if_unknown(out: &mut [u8], at: usize, why: usize) -> usize {
+    if why == arguments::UNKNOWN {
+        return usage(out, at);
+    }
+    at
 }
 
 // Argument i is bad.
-pub fn bad(out: &mut [u8], i: usize) {
-    let mut word = io::buffer();
-    let n = os::arg(i, &mut word);
-    io::write_all(STDERR_FILENO, b"inspect: not understood: ");
-    io::write_all(STDERR_FILENO, &word[..n]);
-    io::write_all(STDERR_FILENO, b"\n");
-    let end = usage(out, 0);
+pub fn bad(out: &mut [u8], i: usize, why: usize) {
+    let begun = text(out, 0, b"inspect: ");
+    let said = fault(out, begun, i, why);
+    let ended = line(out, said);
+    let end = if_unknown(out, ended, why);
     errors(out, end);
 }
 

@@ -13,6 +13,7 @@ mod messages;
 mod names;
 mod path;
 mod payloads;
+mod reasons;
 mod tree;
 mod verdict;
 mod walk;

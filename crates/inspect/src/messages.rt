@@ -5,6 +5,7 @@ use crate::arguments::is_plain;
 use crate::bytes;
 use crate::dump;
 use crate::held;
+use crate::help::errors;
 use crate::names;
 use crate::payloads;
 use crate::tree;
@@ -14,6 +15,7 @@ use grid::numbers::least;
 use libc::STDOUT_FILENO;
 use reader::message::read_front;
 use rewriter::message::rewrite;
+use show::quoted::plain;
 
 // The rows, if asked for.
 fn rows_view(
@@ -118,16 +120,30 @@ pub fn shown(message: &[u8], rows: &mut [u32], asked: Asked, out: &mut [u8], at:
     }
 }
 
-// A message in house form; a refusal goes to standard error.
-pub fn rewritten(message: &[u8], rows: &mut [u32], house: &mut [u8], out: &mut [u8]) {
+// Writes a message in house form; says where that fails.
+fn write_house(house: &[u8], written: usize) {
+    let n = least(written, house.len());
+    if !io::write_all(STDOUT_FILENO, &house[..n]) {
+        os::fail(b"standard output");
+    }
+}
+
+// A message in house form; a refusal goes to standard error, under the message's name.
+pub fn rewritten(
+    name: &[u8],
+    message: &[u8],
+    rows: &mut [u32],
+    house: &mut [u8],
+    paint: bool,
+    out: &mut [u8],
+) {
     match rewrite(message, rows, house) {
-        Answer::Done(written) => {
-            let n = least(written, house.len());
-            io::write_all(STDOUT_FILENO, &house[..n]);
-        }
+        Answer::Done(written) => write_house(house, written),
         Answer::Refused(refusal, place) => {
-            let end = verdict::not_rewritten(message, refusal, place, out, 0);
-            crate::help::errors(out, end);
+            let named = plain(out, 0, name);
+            let sized = verdict::size(message, out, named);
+            let end = verdict::not_rewritten(message, refusal, place, paint, out, sized);
+            errors(out, end);
         }
     }
 }

@@ -12,10 +12,14 @@ use rows::word;
 use show::block::line;
 use show::block::text;
 use show::numbers::number;
+use show::quoted::plain;
 use show::scalars::refused;
 
 // The answer where a name may stand among the rows that are not held: no row left.
 const NOT_HELD: u32 = 8;
+
+// The answer for a row that has no names.
+const NO_NAMES: u32 = 12;
 
 // The end of the name that starts at a place.
 fn name_end(path: &[u8], from: usize) -> usize {
@@ -126,7 +130,11 @@ fn nowhere(refusal: u32, out: &mut [u8], at: usize) -> usize {
     if refusal == NOT_HELD {
         return text(out, at, b"not among the rows held");
     }
-    refused(out, at, refusal)
+    let told = refused(out, at, refusal);
+    if refusal == NO_NAMES {
+        return text(out, told, b": objects, tables and records alone have names");
+    }
+    told
 }
 
 // What a path leads to: a refusal, or a row and those below it.
@@ -150,7 +158,7 @@ pub fn argument(message: &[u8], rows: &mut [u32], i: usize, out: &mut [u8], at: 
     let mut path = io::buffer();
     let n = os::arg(i, &mut path);
     let begun = text(out, at, b"name ");
-    let told = text(out, begun, &path[..n]);
+    let told = plain(out, begun, &path[..n]);
     let colon = text(out, told, b": ");
     let answer = found(message, rows, &path[..n]);
     shown(message, rows, answer, out, colon)

@@ -97,14 +97,14 @@ pub fn not_rewritten(
     message: &[u8],
     refusal: u32,
     place: usize,
+    paint: bool,
     out: &mut [u8],
     at: usize,
 ) -> usize {
-    let told = reason(refusal, place, out, at);
-    let ended = line(out, told);
+    let told = refused(message, refusal, place, paint, out, at);
     if refusal != NO_ROW {
-        return ended;
+        return told;
     }
-    let more = with_more(message, out, ended);
+    let more = with_more(message, out, told);
     line(out, more)
 }

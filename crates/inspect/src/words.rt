@@ -11,6 +11,8 @@ pub enum Word {
     Help,
     At,
     Name,
+    // All words after it are files' names.
+    End,
     File,
     Unknown,
 }
@@ -39,6 +41,9 @@ fn with_words(word: &[u8]) -> Word {
     if is(word, b"--name") {
         return Word::Name;
     }
+    if is(word, b"--") {
+        return Word::End;
+    }
     other(word)
 }
 
@@ -59,7 +64,7 @@ pub fn of(word: &[u8]) -> Word {
     if is(word, b"--color") {
         return Word::Color;
     }
-    if is(word, b"--help") {
+    if is(word, b"--help") || is(word, b"-h") {
         return Word::Help;
     }
     with_words(word)

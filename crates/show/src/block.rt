@@ -1,16 +1,36 @@
 // A block of output. Each function puts something at a place of the block and answers the place after it; a full block is written out.
+// The block's last byte is kept for a mark: 1 from the first write on that failed.
+use grid::numbers;
 use grid::numbers::least;
+use grid::numbers::less;
 use libc::STDOUT_FILENO;
 
-// Writes out what stands before a place.
-pub fn flush(out: &[u8], at: usize) {
+// Says, the first time, that a write failed.
+fn failed(out: &mut [u8]) {
+    let last = less(out.len(), 1);
+    if numbers::byte(out, last) == 1 {
+        return;
+    }
+    os::fail(b"standard output");
+    numbers::set_byte(out, last, 1);
+}
+
+// Whether what stands before a place could be written out.
+fn written(out: &[u8], at: usize) -> bool {
     let n = least(at, out.len());
-    io::write_all(STDOUT_FILENO, &out[..n]);
+    io::write_all(STDOUT_FILENO, &out[..n])
+}
+
+// Writes out what stands before a place.
+pub fn flush(out: &mut [u8], at: usize) {
+    if !written(out, at) {
+        failed(out);
+    }
 }
 
 // The place at which the next byte goes, where a full block is written out.
-fn room(out: &[u8], at: usize) -> usize {
-    if at < out.len() {
+fn room(out: &mut [u8], at: usize) -> usize {
+    if at < less(out.len(), 1) {
         return at;
     }
     flush(out, at);

@@ -1,4 +1,5 @@
-// Floats, exactly: in decimal where that takes at most 60 digits after the point, else as a whole number times a power of two.
+// Floats, exactly: in decimal where that takes at most 60 digits after the point and 64 bits before it, else as a whole number
+// times a power of two.
 use crate::block::byte;
 use crate::block::text;
 use crate::numbers::decimal;
@@ -21,6 +22,28 @@ fn reduced(from: Binary) -> Binary {
     while scale < WHOLE && whole % 2 == 0 {
         whole = whole / 2;
         scale += 1;
+    }
+    Binary {
+        whole: whole,
+        scale: scale,
+    }
+}
+
+// Twice a number below two to the power of 63; a larger one as it is.
+fn twice(n: u64) -> u64 {
+    if n < 0x8000_0000_0000_0000 {
+        return n * 2;
+    }
+    n
+}
+
+// Twice a number with its scale kept in step, until the scale is that of a whole number or the number has no room for one bit more.
+fn doubled(from: Binary) -> Binary {
+    let mut whole = from.whole;
+    let mut scale = from.scale;
+    while WHOLE < scale && whole < 0x8000_0000_0000_0000 {
+        whole = twice(whole);
+        scale -= 1;
     }
     Binary {
         whole: whole,
@@ -93,6 +116,15 @@ fn scaled(out: &mut [u8], at: usize, b: Binary) -> usize {
     number(out, times, WHOLE - scale)
 }
 
+// A float that is a whole number: in decimal where it has at most 64 bits.
+fn large(out: &mut [u8], at: usize, from: Binary) -> usize {
+    let b = doubled(from);
+    if b.scale == WHOLE {
+        return decimal(out, at, b.whole);
+    }
+    scaled(out, at, from)
+}
+
 // A float in decimal, or with a power of two.
 fn exact(out: &mut [u8], at: usize, from: Binary) -> usize {
     let b = reduced(from);
@@ -101,10 +133,10 @@ fn exact(out: &mut [u8], at: usize, from: Binary) -> usize {
     if whole == 0 {
         return byte(out, at, b'0');
     }
-    if scale == WHOLE {
-        return decimal(out, at, whole);
+    if WHOLE <= scale {
+        return large(out, at, b);
     }
-    if scale < WHOLE && WHOLE - scale <= 60 {
+    if WHOLE - scale <= 60 {
         return pointed(out, at, whole, power(WHOLE - scale));
     }
     scaled(out, at, b)

@@ -1,10 +1,10 @@
--- `address::record`: a loop over rows. Assumes nothing.
+-- `address::slots`: a loop over rows. Assumes nothing.
 use borrow.Author.Needs.{needs}
 use Prim.Native.Nat.{_-_}
 use lib.ListN.{length}
 use mathlib.Core.Path.{_≡_}
-use Rattle.inspect.proofs.address.record.Statement.{statement}
-use Rattle.inspect.proofs.address.record.Tie as tie
+use Rattle.inspect.proofs.address.slots.Statement.{statement}
+use Rattle.inspect.proofs.address.slots.Tie as tie
 
 abbrev Inv-loop : tie.InvT-loop
 Inv-loop message rows row indexes count paint out₀ at end next₀ leaf₀ out next leaf = length out ≡ length out₀
@@ -12,8 +12,8 @@ Inv-loop message rows row indexes count paint out₀ at end next₀ leaf₀ out 
 abbrev μ-loop : tie.MeasureT-loop
 μ-loop message rows row indexes count paint out₀ at end next₀ leaf₀ out next leaf = end - leaf
 
-pub record-spec : {M : Type 1} → statement M
-record-spec =
+pub slots-spec : {M : Type 1} → statement M
+slots-spec =
     tie.close
     (tie.spec
     Inv-loop

@@ -1,13 +1,13 @@
--- `block::flush`: what is written is a part of the block. Assumes nothing.
+-- `block::written`: what is written is a part of the block. Assumes nothing.
 use borrow.Author.Needs.{needs}
 use borrow.Table.Elements.{length-take-le}
 use mathlib.Core.Path.{sym}
 use native.Mathlib.Omega.{arith}
-use Rattle.show.proofs.block.flush.Statement.{statement}
-use Rattle.show.proofs.block.flush.Tie as tie
+use Rattle.show.proofs.block.written.Statement.{statement}
+use Rattle.show.proofs.block.written.Tie as tie
 
-pub flush-spec : {M : Type 1} → statement M
-flush-spec =
+pub written-spec : {M : Type 1} → statement M
+written-spec =
     tie.close
     (tie.spec
     (λ c κs. search needs)
