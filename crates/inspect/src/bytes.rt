@@ -10,6 +10,7 @@ use rows::word;
 use show::block::line;
 use show::block::text;
 use show::names;
+use show::numbers::counted;
 use show::numbers::number;
 
 // A row by its number and its kind.
@@ -37,12 +38,21 @@ fn later(rows: &[u32], row: usize, out: &mut [u8], at: usize) -> usize {
     text(out, shown, b", end")
 }
 
-// What a run that starts at a byte belongs to.
+// So many no-ops.
+fn noops(count: usize, out: &mut [u8], at: usize) -> usize {
+    if count == 1 {
+        return text(out, at, b"no-op");
+    }
+    counted(out, at, count, b" no-op")
+}
+
+// What a run from a byte on, before another, belongs to.
 fn owner(
     message: &[u8],
     rows: &[u32],
     row: usize,
     from: usize,
+    end: usize,
     out: &mut [u8],
     at: usize,
 ) -> usize {
@@ -50,7 +60,7 @@ fn owner(
         return start(message, rows, row, out, at);
     }
     if walk::is_noop(message, from) && !(row != NONE && walk::has_slots(rows, row)) {
-        return text(out, at, b"no-op");
+        return noops(less(end, from), out, at);
     }
     later(rows, row, out, at)
 }
@@ -60,7 +70,7 @@ fn run(message: &[u8], rows: &[u32], used: usize, row: usize, out: &mut [u8], mu
     let from = w.byte;
     let end = walk::run_end(message, rows, used, row, w);
     let shown = dump::head(out, w.at, message, from, end);
-    let told = owner(message, rows, row, from, out, shown);
+    let told = owner(message, rows, row, from, end, out, shown);
     let ended = line(out, told);
     w.at = dump::rest(out, ended, message, from, end);
     w.byte = end;
