@@ -2,6 +2,8 @@
 use crate::describe;
 use crate::dump;
 use crate::payloads;
+use crate::payloads::Listing;
+use crate::room;
 use crate::walk;
 use crate::walk::NONE;
 use crate::walk::Walk;
@@ -90,7 +92,21 @@ fn at_slots(rows: &[u32], row: usize, at: usize) -> bool {
 
 // The slots of the innermost open row.
 fn slots(message: &[u8], rows: &[u32], row: usize, out: &mut [u8], mut w: Walk) -> Walk {
-    w.at = payloads::all(message, rows, true, row, out, w.at);
+    let listed = payloads::all(
+        message,
+        rows,
+        row,
+        out,
+        Listing {
+            hex: true,
+            count: 0,
+            byte: w.byte,
+            room: w.room,
+            at: w.at,
+        },
+    );
+    w.at = listed.at;
+    w.room = listed.room;
     w.byte = walk::payload_end(rows, row);
     w
 }
@@ -133,6 +149,7 @@ pub fn all(message: &[u8], rows: &[u32], used: usize, out: &mut [u8], at: usize)
         row: 0,
         depth: 0,
         end: 0,
+        room: room::all(message),
         at: text(
             out,
             at,

@@ -11,11 +11,15 @@ mod help;
 mod lists;
 mod messages;
 mod names;
+mod narrowed;
+mod one_slot;
 mod path;
 mod payloads;
+mod room;
 mod tree;
 mod verdict;
 mod walk;
+mod way;
 mod words;
 
 fn main() {

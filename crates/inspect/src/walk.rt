@@ -18,6 +18,8 @@ pub struct Walk {
     pub depth: usize,
     // The byte after all that belongs to the rows opened so far, closing marks aside.
     pub end: usize,
+    // How many bytes of output are left for slots.
+    pub room: usize,
     // The place after what is shown in the block of output.
     pub at: usize,
 }
