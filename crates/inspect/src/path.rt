@@ -2,6 +2,7 @@
 use crate::describe::text_at;
 use crate::way;
 use crate::way::Way;
+use grid::numbers::byte;
 use grid::numbers::least;
 use grid::numbers::less;
 use grid::numbers::sum;
@@ -12,8 +13,8 @@ use show::numbers::number;
 // The bytes that are reckoned for a place in a fixed array.
 const PLACE: usize = 8;
 
-// The most bytes that are reckoned for a name: a longer one is not shown whole.
-const NAME: usize = 96;
+// The bytes of a name that are reckoned: of a longer one no more are shown.
+const NAME: usize = 64;
 
 // A place in a fixed array.
 fn place(place: usize, out: &mut [u8], at: usize) -> usize {
@@ -51,21 +52,42 @@ pub fn of_leaf(message: &[u8], rows: &[u32], w: Way, out: &mut [u8], at: usize) 
     next
 }
 
+// The bytes that a byte of a name is shown by.
+fn shown_by(b: u8) -> usize {
+    if 0x20 <= b && b < 0x7F {
+        return 1;
+    }
+    4
+}
+
+// About the bytes that a key's name is shown by.
+fn name_length(message: &[u8], rows: &[u32], key: usize) -> usize {
+    let first = word(rows, key, 3);
+    let end = sum(first, least(word(rows, key, 4), NAME));
+    let mut n: usize = 0;
+    let mut i = first;
+    while i < end {
+        n = sum(n, shown_by(byte(message, i)));
+        i += 1;
+    }
+    n
+}
+
 // The bytes of the part that the member at a depth adds.
-fn part_length(rows: &[u32], w: Way, depth: usize) -> usize {
+fn part_length(message: &[u8], rows: &[u32], w: Way, depth: usize) -> usize {
     let member = way::member(w, depth);
     if way::has_key(rows, member) {
-        return least(word(rows, less(member, 1), 4), NAME);
+        return name_length(message, rows, less(member, 1));
     }
     PLACE
 }
 
-// About the bytes of a name.
-pub fn length(rows: &[u32], w: Way) -> usize {
+// About the bytes that a leaf's name is shown by.
+pub fn length(message: &[u8], rows: &[u32], w: Way) -> usize {
     let mut n: usize = 0;
     let mut depth: usize = 0;
     while depth < w.depth {
-        n = sum(n, part_length(rows, w, depth));
+        n = sum(n, part_length(message, rows, w, depth));
         depth += 1;
     }
     n

@@ -287,8 +287,8 @@ fn listed(message: &[u8], rows: &[u32], row: usize, out: &mut [u8], s: Listing) 
 
 // How many elements or records of a packed array or a table are listed: as many as half of the room is enough for, so that others
 // are shown after it.
-fn counted_in(rows: &[u32], row: usize, mut s: Listing) -> Listing {
-    let each = room::cost(rows, row);
+fn counted_in(message: &[u8], rows: &[u32], row: usize, mut s: Listing) -> Listing {
+    let each = room::cost(message, rows, row);
     let count = least(word(rows, row, 5), quotient(s.room / 2, each));
     s.count = count;
     s.room = less(s.room, room::product(count, each));
@@ -308,7 +308,7 @@ fn more(rows: &[u32], row: usize, out: &mut [u8], mut s: Listing) -> Listing {
 
 // The slots of a packed array or a table, and what is left out of them.
 pub fn all(message: &[u8], rows: &[u32], row: usize, out: &mut [u8], s: Listing) -> Listing {
-    let list = listed(message, rows, row, out, counted_in(rows, row, s));
+    let list = listed(message, rows, row, out, counted_in(message, rows, row, s));
     if list.hex {
         return left_out(message, rows, row, payload_end(rows, row), out, list);
     }

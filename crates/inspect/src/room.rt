@@ -15,15 +15,15 @@ pub fn all(message: &[u8]) -> usize {
 }
 
 // About the bytes of output for the slot of a row, if it is a leaf's; the way leads to it.
-fn leaf_cost(rows: &[u32], w: Way, leaf: usize) -> usize {
+fn leaf_cost(message: &[u8], rows: &[u32], w: Way, leaf: usize) -> usize {
     if !shape::is_leaf(rows, leaf) {
         return 0;
     }
-    sum(SLOT, path::length(rows, w))
+    sum(SLOT, path::length(message, rows, w))
 }
 
 // About the bytes of output for an element or a record.
-pub fn cost(rows: &[u32], row: usize) -> usize {
+pub fn cost(message: &[u8], rows: &[u32], row: usize) -> usize {
     let end = shape::schema_end(rows, row);
     if shape::is_packed(rows, row) {
         return SLOT;
@@ -33,7 +33,7 @@ pub fn cost(rows: &[u32], row: usize) -> usize {
     let mut r = sum(row, 2);
     while r < end {
         w = way::further(rows, w, r);
-        bytes = sum(bytes, leaf_cost(rows, w, r));
+        bytes = sum(bytes, leaf_cost(message, rows, w, r));
         r += 1;
     }
     bytes

@@ -5,10 +5,10 @@ use Rattle.inspect.proofs.path.length.Statement.{statement}
 use Rattle.inspect.proofs.path.length.Tie as tie
 
 abbrev Inv-loop : tie.InvT-loop
-Inv-loop rows w n₀ depth₀ n depth = Unit {0}
+Inv-loop message rows w n₀ depth₀ n depth = Unit {0}
 
 abbrev μ-loop : tie.MeasureT-loop
-μ-loop rows w n₀ depth₀ n depth = w .depth - depth
+μ-loop message rows w n₀ depth₀ n depth = w .depth - depth
 
 pub length-spec : {M : Type 1} → statement M
 length-spec =

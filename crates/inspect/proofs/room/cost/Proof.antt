@@ -5,10 +5,10 @@ use Rattle.inspect.proofs.room.cost.Statement.{statement}
 use Rattle.inspect.proofs.room.cost.Tie as tie
 
 abbrev Inv-loop : tie.InvT-loop
-Inv-loop rows row end bytes₀ w₀ r₀ bytes w r = Unit {0}
+Inv-loop message rows row end bytes₀ w₀ r₀ bytes w r = Unit {0}
 
 abbrev μ-loop : tie.MeasureT-loop
-μ-loop rows row end bytes₀ w₀ r₀ bytes w r = end - r
+μ-loop message rows row end bytes₀ w₀ r₀ bytes w r = end - r
 
 pub cost-spec : {M : Type 1} → statement M
 cost-spec =
