@@ -2,12 +2,17 @@
 use crate::dump;
 use crate::held;
 use crate::lists;
-use crate::payloads;
+use crate::narrowed;
+use crate::narrowed::LEAF;
+use crate::one_slot;
 use crate::reasons;
+use crate::way;
+use crate::way::Way;
 use format::answers::Located;
 use grid::ask;
 use grid::numbers::least;
 use grid::numbers::narrow;
+use grid::numbers::sum;
 use grid::shape;
 use show::block::line;
 use show::block::text;
@@ -26,8 +31,8 @@ fn place(first: usize, width: usize, out: &mut [u8], at: usize) -> usize {
 fn found(
     message: &[u8],
     rows: &[u32],
-    row: usize,
-    leaf: usize,
+    alone: &[u32],
+    w: Way,
     indexes: &[usize],
     count: usize,
     first: usize,
@@ -37,12 +42,47 @@ fn found(
     at: usize,
 ) -> usize {
     let colon = place(first, width, out, at);
-    let filled = payloads::content(message, rows, row, leaf, indexes, count, out, colon);
+    let filled = one_slot::content(message, rows, alone, w, indexes, count, out, colon);
     let ended = line(out, filled);
     if width == 0 {
         return ended;
     }
     dump::around(out, ended, message, first, width, paint)
+}
+
+// The answer to an address, for which the rows of its leaf stand alone.
+fn answered(
+    message: &[u8],
+    rows: &[u32],
+    alone: &[u32; 128],
+    w: Way,
+    row: usize,
+    leaf: usize,
+    indexes: &[usize],
+    count: usize,
+    answer: Located,
+    paint: bool,
+    out: &mut [u8],
+    at: usize,
+) -> usize {
+    match answer {
+        Located::Refused(refusal) => {
+            reasons::refused(rows, row, leaf, indexes, count, refusal, out, at)
+        }
+        Located::At(first, width) => found(
+            message,
+            rows,
+            alone,
+            w,
+            indexes,
+            count,
+            first,
+            width,
+            paint,
+            out,
+            at,
+        ),
+    }
 }
 
 // An address, as it was asked for.
@@ -56,7 +96,7 @@ fn asked(
     at: usize,
 ) -> usize {
     let begun = text(out, at, b"slot ");
-    let shown = payloads::address(rows, row, leaf, indexes, count, out, begun);
+    let shown = one_slot::address(rows, row, leaf, indexes, count, out, begun);
     text(out, shown, b": ")
 }
 
@@ -73,30 +113,33 @@ fn one(
     at: usize,
 ) -> usize {
     let colon = asked(rows, row, leaf, indexes, count, out, at);
-    match ask::located(rows, narrow(message.len()), row, leaf, indexes, count) {
-        Located::Refused(refusal) => {
-            reasons::refused(rows, row, leaf, indexes, count, refusal, out, colon)
-        }
-        Located::At(first, width) => found(
-            message,
-            rows,
-            row,
-            leaf,
-            indexes,
-            count,
-            first,
-            width,
-            paint,
-            out,
-            colon,
-        ),
-    }
+    let answer = ask::located(rows, narrow(message.len()), row, leaf, indexes, count);
+    let w = way::to(rows, row, leaf);
+    let mut alone = [0u32; 128];
+    narrowed::shared(rows, row, &mut alone);
+    narrowed::leaf(rows, w, &mut alone);
+    answered(
+        message,
+        rows,
+        &alone,
+        w,
+        row,
+        leaf,
+        indexes,
+        count,
+        answer,
+        paint,
+        out,
+        colon,
+    )
 }
 
-// One slot of a record, if the row names one.
+// One slot of a record, if the row is a leaf's; the way leads to it.
 fn named(
     message: &[u8],
     rows: &[u32],
+    alone: &mut [u32; 128],
+    w: Way,
     row: usize,
     leaf: usize,
     indexes: &[usize],
@@ -105,10 +148,26 @@ fn named(
     out: &mut [u8],
     at: usize,
 ) -> usize {
-    if shape::names(rows, row, leaf) {
-        return one(message, rows, row, leaf, indexes, count, paint, out, at);
+    if !shape::is_leaf(rows, leaf) {
+        return at;
     }
-    at
+    let colon = asked(rows, row, leaf, indexes, count, out, at);
+    narrowed::leaf(rows, w, alone);
+    let answer = ask::located(alone, narrow(message.len()), 0, LEAF, indexes, count);
+    answered(
+        message,
+        rows,
+        alone,
+        w,
+        row,
+        leaf,
+        indexes,
+        count,
+        answer,
+        paint,
+        out,
+        colon,
+    )
 }
 
 // All slots of one record that is there.
@@ -123,10 +182,26 @@ fn slots(
     at: usize,
 ) -> usize {
     let end = shape::schema_end(rows, row);
+    let mut alone = [0u32; 128];
+    narrowed::shared(rows, row, &mut alone);
+    let mut w = way::none();
     let mut next = at;
-    let mut leaf = row;
+    let mut leaf = sum(row, 2);
     while leaf < end {
-        next = named(message, rows, row, leaf, indexes, count, paint, out, next);
+        w = way::further(rows, w, leaf);
+        next = named(
+            message,
+            rows,
+            &mut alone,
+            w,
+            row,
+            leaf,
+            indexes,
+            count,
+            paint,
+            out,
+            next,
+        );
         leaf += 1;
     }
     next
@@ -207,6 +282,6 @@ pub fn argument(
     let mut place = io::buffer();
     let n = os::arg(i, &mut place);
     let mut list = io::buffer();
-    let k = os::arg(grid::numbers::sum(i, 1), &mut list);
+    let k = os::arg(sum(i, 1), &mut list);
     listed(message, rows, &place[..n], &list[..k], paint, out, at)
 }

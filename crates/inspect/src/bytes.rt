@@ -2,6 +2,8 @@
 use crate::describe;
 use crate::dump;
 use crate::payloads;
+use crate::payloads::Listing;
+use crate::room;
 use crate::walk;
 use crate::walk::NONE;
 use crate::walk::Walk;
@@ -10,6 +12,7 @@ use rows::word;
 use show::block::line;
 use show::block::text;
 use show::names;
+use show::numbers::counted;
 use show::numbers::number;
 
 // A row by its number and its kind.
@@ -37,12 +40,21 @@ fn later(rows: &[u32], row: usize, out: &mut [u8], at: usize) -> usize {
     text(out, shown, b", end")
 }
 
-// What a run that starts at a byte belongs to.
+// So many no-ops.
+fn noops(count: usize, out: &mut [u8], at: usize) -> usize {
+    if count == 1 {
+        return text(out, at, b"no-op");
+    }
+    counted(out, at, count, b" no-op")
+}
+
+// What a run from a byte on, before another, belongs to.
 fn owner(
     message: &[u8],
     rows: &[u32],
     row: usize,
     from: usize,
+    end: usize,
     out: &mut [u8],
     at: usize,
 ) -> usize {
@@ -50,7 +62,7 @@ fn owner(
         return start(message, rows, row, out, at);
     }
     if walk::is_noop(message, from) && !(row != NONE && walk::has_slots(rows, row)) {
-        return text(out, at, b"no-op");
+        return noops(less(end, from), out, at);
     }
     later(rows, row, out, at)
 }
@@ -60,7 +72,7 @@ fn run(message: &[u8], rows: &[u32], used: usize, row: usize, out: &mut [u8], mu
     let from = w.byte;
     let end = walk::run_end(message, rows, used, row, w);
     let shown = dump::head(out, w.at, message, from, end);
-    let told = owner(message, rows, row, from, out, shown);
+    let told = owner(message, rows, row, from, end, out, shown);
     let ended = line(out, told);
     w.at = dump::rest(out, ended, message, from, end);
     w.byte = end;
@@ -80,7 +92,21 @@ fn at_slots(rows: &[u32], row: usize, at: usize) -> bool {
 
 // The slots of the innermost open row.
 fn slots(message: &[u8], rows: &[u32], row: usize, out: &mut [u8], mut w: Walk) -> Walk {
-    w.at = payloads::all(message, rows, true, row, out, w.at);
+    let listed = payloads::all(
+        message,
+        rows,
+        row,
+        out,
+        Listing {
+            hex: true,
+            count: 0,
+            byte: w.byte,
+            room: w.room,
+            at: w.at,
+        },
+    );
+    w.at = listed.at;
+    w.room = listed.room;
     w.byte = walk::payload_end(rows, row);
     w
 }
@@ -123,6 +149,7 @@ pub fn all(message: &[u8], rows: &[u32], used: usize, out: &mut [u8], at: usize)
         row: 0,
         depth: 0,
         end: 0,
+        room: room::all(message),
         at: text(
             out,
             at,

@@ -11,12 +11,16 @@ mod help;
 mod lists;
 mod messages;
 mod names;
+mod narrowed;
+mod one_slot;
 mod path;
 mod payloads;
 mod reasons;
+mod room;
 mod tree;
 mod verdict;
 mod walk;
+mod way;
 mod words;
 
 fn main() {

@@ -1,34 +1,25 @@
 // The name of a leaf: the names that lead to it in its table's schema, with a slash between two, and places in fixed arrays.
 use crate::describe::text_at;
+use crate::way;
+use crate::way::Way;
+use grid::numbers::byte;
+use grid::numbers::least;
 use grid::numbers::less;
 use grid::numbers::sum;
-use grid::shape::link;
 use rows::word;
 use show::block::text;
 use show::numbers::number;
 
-// The kind of a key's row.
-const KEY: usize = 4;
+// The bytes that are reckoned for a place in a fixed array.
+const PLACE: usize = 8;
 
-// How many members of a fixed array stand before one of them.
-fn place_in(rows: &[u32], array: usize, member: usize) -> usize {
-    let mut n: usize = 0;
-    let mut r = sum(array, 1);
-    while r < member {
-        let next = link(rows, r);
-        if next <= r {
-            return n;
-        }
-        n = sum(n, 1);
-        r = next;
-    }
-    n
-}
+// The bytes of a name that are reckoned: of a longer one no more are shown.
+const NAME: usize = 64;
 
 // A place in a fixed array.
-fn place(rows: &[u32], array: usize, member: usize, out: &mut [u8], at: usize) -> usize {
+fn place(place: usize, out: &mut [u8], at: usize) -> usize {
     let opened = text(out, at, b"[");
-    let shown = number(out, opened, place_in(rows, array, member));
+    let shown = number(out, opened, place);
     text(out, shown, b"]")
 }
 
@@ -41,67 +32,63 @@ fn name(message: &[u8], rows: &[u32], key: usize, first: bool, out: &mut [u8], a
     text_at(message, rows, key, out, slash)
 }
 
-// Whether a row holds a leaf, or is it.
-fn holds(rows: &[u32], row: usize, leaf: usize) -> bool {
-    row <= leaf && leaf < link(rows, row)
+// The part of the name that the member at a depth adds: its key's name, or its place in the fixed array that holds it.
+fn part(message: &[u8], rows: &[u32], w: Way, depth: usize, out: &mut [u8], at: usize) -> usize {
+    let member = way::member(w, depth);
+    if way::has_key(rows, member) {
+        return name(message, rows, less(member, 1), depth == 0, out, at);
+    }
+    place(way::place(w, depth), out, at)
 }
 
-// The part of a leaf's name that a row adds: its key's name, or its place in the fixed array that holds it; nothing where the row
-// doesn't hold the leaf.
-fn part(
-    message: &[u8],
-    rows: &[u32],
-    holder: usize,
-    row: usize,
-    leaf: usize,
-    first: bool,
-    out: &mut [u8],
-    at: usize,
-) -> usize {
-    if !holds(rows, row, leaf) {
-        return at;
-    }
-    if word(rows, less(row, 1), 0) == KEY {
-        return name(message, rows, less(row, 1), first, out, at);
-    }
-    place(rows, holder, row, out, at)
-}
-
-// The innermost of two rows that holds a leaf, which the first does.
-fn inner(rows: &[u32], holder: usize, row: usize, leaf: usize) -> usize {
-    if holds(rows, row, leaf) {
-        return row;
-    }
-    holder
-}
-
-// The name of a leaf of a table.
-pub fn of_leaf(
-    message: &[u8],
-    rows: &[u32],
-    table: usize,
-    leaf: usize,
-    out: &mut [u8],
-    at: usize,
-) -> usize {
-    let schema = sum(table, 1);
-    let end = sum(leaf, 1);
+// The name of the leaf that a way leads to.
+pub fn of_leaf(message: &[u8], rows: &[u32], w: Way, out: &mut [u8], at: usize) -> usize {
     let mut next = at;
-    let mut holder = schema;
-    let mut row = sum(table, 2);
-    while row < end {
-        next = part(
-            message,
-            rows,
-            holder,
-            row,
-            leaf,
-            holder == schema,
-            out,
-            next,
-        );
-        holder = inner(rows, holder, row, leaf);
-        row += 1;
+    let mut depth: usize = 0;
+    while depth < w.depth {
+        next = part(message, rows, w, depth, out, next);
+        depth += 1;
     }
     next
+}
+
+// The bytes that a byte of a name is shown by.
+fn shown_by(b: u8) -> usize {
+    if 0x20 <= b && b < 0x7F {
+        return 1;
+    }
+    4
+}
+
+// About the bytes that a key's name is shown by.
+fn name_length(message: &[u8], rows: &[u32], key: usize) -> usize {
+    let first = word(rows, key, 3);
+    let end = sum(first, least(word(rows, key, 4), NAME));
+    let mut n: usize = 0;
+    let mut i = first;
+    while i < end {
+        n = sum(n, shown_by(byte(message, i)));
+        i += 1;
+    }
+    n
+}
+
+// The bytes of the part that the member at a depth adds.
+fn part_length(message: &[u8], rows: &[u32], w: Way, depth: usize) -> usize {
+    let member = way::member(w, depth);
+    if way::has_key(rows, member) {
+        return name_length(message, rows, less(member, 1));
+    }
+    PLACE
+}
+
+// About the bytes that a leaf's name is shown by.
+pub fn length(message: &[u8], rows: &[u32], w: Way) -> usize {
+    let mut n: usize = 0;
+    let mut depth: usize = 0;
+    while depth < w.depth {
+        n = sum(n, part_length(message, rows, w, depth));
+        depth += 1;
+    }
+    n
 }

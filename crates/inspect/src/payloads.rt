@@ -2,10 +2,15 @@
 use crate::describe;
 use crate::dump;
 use crate::held;
-use crate::path;
+use crate::narrowed;
+use crate::narrowed::LEAF;
+use crate::one_slot;
+use crate::room;
+use crate::walk::payload_end;
+use crate::way;
+use crate::way::Way;
 use format::answers::Located;
 use format::marks::OBJECT;
-use format::marks::TEXT;
 use grid::ask;
 use grid::numbers::least;
 use grid::numbers::less;
@@ -14,7 +19,6 @@ use grid::numbers::quotient;
 use grid::numbers::sum;
 use grid::shape;
 use rows::word;
-use show::block::byte;
 use show::block::line;
 use show::block::spaces;
 use show::block::text;
@@ -22,106 +26,37 @@ use show::numbers::counted;
 use show::numbers::number;
 use show::numbers::right;
 use show::scalars::refused;
-use show::scalars::valued;
 
-// The slots of one packed array or table that are shown. Only slots of no bytes can be more.
-const SLOTS: usize = 1_048_576;
-
-// The steps that are gone for one packed array or table, where a slot takes as many as there are leaves. A table of up to 4,096
-// leaves never takes more, if its slots have bytes.
-const STEPS: usize = 4_294_967_296;
-
-// Index j; 0 where there is none.
-fn index(indexes: &[usize], j: usize) -> usize {
-    if j < indexes.len() {
-        return indexes[j];
-    }
-    0
-}
-
-// So many indexes, with a comma between two.
-fn list(indexes: &[usize], count: usize, out: &mut [u8], at: usize) -> usize {
-    let mut next = number(out, at, index(indexes, 0));
-    let mut j: usize = 1;
-    while j < count {
-        let comma = byte(out, next, b',');
-        next = number(out, comma, index(indexes, j));
-        j += 1;
-    }
-    next
-}
-
-// An address, as the command line takes it; no leaf is row 0.
-pub fn address(
-    rows: &[u32],
-    row: usize,
-    leaf: usize,
-    indexes: &[usize],
-    count: usize,
-    out: &mut [u8],
-    at: usize,
-) -> usize {
-    let first = number(out, at, row);
-    if leaf == 0 || shape::is_packed(rows, row) {
-        let gap = byte(out, first, b' ');
-        return list(indexes, count, out, gap);
-    }
-    let comma = byte(out, first, b',');
-    let second = number(out, comma, leaf);
-    let gap = byte(out, second, b' ');
-    list(indexes, count, out, gap)
-}
-
-// The name of a table's slot; an element of a packed array has none.
-fn name(message: &[u8], rows: &[u32], row: usize, leaf: usize, out: &mut [u8], at: usize) -> usize {
-    if shape::is_packed(rows, row) {
-        return at;
-    }
-    let named = path::of_leaf(message, rows, row, leaf, out, at);
-    byte(out, named, b' ')
-}
-
-// The name, the mark and the value of what is in a slot.
-pub fn content(
-    message: &[u8],
-    rows: &[u32],
-    row: usize,
-    leaf: usize,
-    indexes: &[usize],
-    count: usize,
-    out: &mut [u8],
-    at: usize,
-) -> usize {
-    let named = name(message, rows, row, leaf, out, at);
-    let mark = shape::mark(rows, row, leaf);
-    let marked = describe::mark(out, named, mark);
-    let equal = text(out, marked, b" = ");
-    if mark == TEXT as usize {
-        let located = ask::texted(message, rows, row, leaf, indexes, count);
-        return describe::located(message, located, out, equal);
-    }
-    valued(
-        out,
-        equal,
-        ask::valued(message, rows, row, leaf, indexes, count),
-    )
+// How slots are listed, and where the list has come to.
+pub struct Listing {
+    // Whether each stands beside its bytes.
+    pub hex: bool,
+    // How many elements or records of the packed array or the table are listed; the others are left out.
+    pub count: usize,
+    // The byte after the last slot listed; only where each stands beside its bytes.
+    pub byte: usize,
+    // How many bytes of output are left for slots.
+    pub room: usize,
+    // The place after what is shown in the block of output.
+    pub at: usize,
 }
 
 // The address of an element or a record by its number, and what is in its slot.
 fn numbered(
     message: &[u8],
     rows: &[u32],
+    alone: &[u32],
+    w: Way,
     row: usize,
-    leaf: usize,
     number: usize,
     out: &mut [u8],
     at: usize,
 ) -> usize {
     let indexes = shape::indexes(rows, row, number);
     let count = shape::rank(rows, row);
-    let shown = address(rows, row, leaf, &indexes, count, out, at);
+    let shown = one_slot::address(rows, row, way::last(w), &indexes, count, out, at);
     let gap = text(out, shown, b"  ");
-    let filled = content(message, rows, row, leaf, &indexes, count, out, gap);
+    let filled = one_slot::content(message, rows, alone, w, &indexes, count, out, gap);
     line(out, filled)
 }
 
@@ -129,13 +64,14 @@ fn numbered(
 fn placed(
     message: &[u8],
     rows: &[u32],
+    alone: &[u32],
+    w: Way,
     row: usize,
-    leaf: usize,
     number: usize,
     out: &mut [u8],
     at: usize,
 ) -> usize {
-    match ask::slot(rows, narrow(message.len()), row, leaf, number) {
+    match ask::slot(alone, narrow(message.len()), 0, LEAF, number) {
         Located::Refused(refusal) => {
             let shown = refused(out, at, refusal);
             line(out, shown)
@@ -144,162 +80,239 @@ fn placed(
             let start = right(out, at, first, 8);
             let wide = right(out, start, width, 8);
             let gap = spaces(out, wide, 2);
-            numbered(message, rows, row, leaf, number, out, gap)
+            numbered(message, rows, alone, w, row, number, out, gap)
         }
     }
 }
 
-// A slot by its bytes; nothing where it has none.
+// How many elements or records are left out.
+fn left(rows: &[u32], row: usize, count: usize, out: &mut [u8], at: usize) -> usize {
+    let n = less(word(rows, row, 5), count);
+    if shape::is_packed(rows, row) {
+        return counted(out, at, n, b" more element");
+    }
+    counted(out, at, n, b" more record")
+}
+
+// The bytes of slots that are left out: those from where the list has come to, before a byte.
+fn left_out(
+    message: &[u8],
+    rows: &[u32],
+    row: usize,
+    end: usize,
+    out: &mut [u8],
+    mut s: Listing,
+) -> Listing {
+    let from = s.byte;
+    if end <= from {
+        return s;
+    }
+    let shown = dump::head(out, s.at, message, from, end);
+    let begun = text(out, shown, b"row ");
+    let told = number(out, begun, row);
+    let colon = text(out, told, b": slots of ");
+    let many = left(rows, row, s.count, out, colon);
+    let ended = text(out, many, b", not listed\n");
+    s.at = dump::rest(out, ended, message, from, end);
+    s.byte = end;
+    s
+}
+
+// A slot beside its bytes, after those that are left out before it; nothing where it has none.
 fn by_bytes(
     message: &[u8],
     rows: &[u32],
+    alone: &[u32],
+    w: Way,
     row: usize,
-    leaf: usize,
     number: usize,
     out: &mut [u8],
-    at: usize,
-) -> usize {
-    match ask::slot(rows, narrow(message.len()), row, leaf, number) {
-        Located::Refused(_) => at,
+    s: Listing,
+) -> Listing {
+    match ask::slot(alone, narrow(message.len()), 0, LEAF, number) {
+        Located::Refused(_) => s,
         Located::At(first, width) => {
             if width == 0 {
-                return at;
+                return s;
             }
+            let mut here = left_out(message, rows, row, first, out, s);
             let end = sum(first, width);
-            let shown = dump::head(out, at, message, first, end);
+            let shown = dump::head(out, here.at, message, first, end);
             let slot = text(out, shown, b"slot ");
-            let filled = numbered(message, rows, row, leaf, number, out, slot);
-            dump::rest(out, filled, message, first, end)
+            let filled = numbered(message, rows, alone, w, row, number, out, slot);
+            here.at = dump::rest(out, filled, message, first, end);
+            here.byte = end;
+            here
         }
     }
 }
 
-// The slot of one value that a row names, if it names one.
+// One slot.
+fn slot(
+    message: &[u8],
+    rows: &[u32],
+    alone: &[u32],
+    w: Way,
+    row: usize,
+    number: usize,
+    out: &mut [u8],
+    mut s: Listing,
+) -> Listing {
+    if s.hex {
+        return by_bytes(message, rows, alone, w, row, number, out, s);
+    }
+    s.at = placed(message, rows, alone, w, row, number, out, s.at);
+    s
+}
+
+// The slot of a row in one record, if it is a leaf's; the way leads to it.
 fn leaf_slot(
     message: &[u8],
     rows: &[u32],
-    hex: bool,
+    alone: &mut [u32; 128],
+    w: Way,
     row: usize,
     leaf: usize,
     number: usize,
     out: &mut [u8],
-    at: usize,
-) -> usize {
-    if !shape::names(rows, row, leaf) {
-        return at;
+    s: Listing,
+) -> Listing {
+    if !shape::is_leaf(rows, leaf) {
+        return s;
     }
-    if hex {
-        return by_bytes(message, rows, row, leaf, number, out, at);
-    }
-    placed(message, rows, row, leaf, number, out, at)
+    narrowed::leaf(rows, w, alone);
+    slot(message, rows, alone, w, row, number, out, s)
 }
 
 // The slots of one value, which are named by some of these rows.
-pub fn value_slots(
+fn value_slots(
     message: &[u8],
     rows: &[u32],
-    hex: bool,
+    alone: &mut [u32; 128],
     row: usize,
     from: usize,
     end: usize,
     number: usize,
     out: &mut [u8],
-    at: usize,
-) -> usize {
-    let mut next = at;
+    s: Listing,
+) -> Listing {
+    let mut list = s;
+    let mut w = way::none();
     let mut r = from;
     while r < end {
-        next = leaf_slot(message, rows, hex, row, r, number, out, next);
+        w = way::further(rows, w, r);
+        list = leaf_slot(message, rows, alone, w, row, r, number, out, list);
         r += 1;
     }
-    next
+    list
 }
 
-// How many elements or records are shown.
-fn shown(rows: &[u32], row: usize) -> usize {
-    let leaves = shape::leaves(rows, row);
-    let room = least(
-        quotient(SLOTS, leaves),
-        quotient(quotient(STEPS, leaves), leaves),
-    );
-    least(word(rows, row, 5), room)
-}
-
-// One value for each element or record.
+// One value for each record.
 fn values(
     message: &[u8],
     rows: &[u32],
-    hex: bool,
+    alone: &mut [u32; 128],
     row: usize,
     from: usize,
     end: usize,
     out: &mut [u8],
-    at: usize,
-) -> usize {
-    let count = shown(rows, row);
-    let mut next = at;
+    s: Listing,
+) -> Listing {
+    let count = s.count;
+    let mut list = s;
     let mut number: usize = 0;
     while number < count {
-        next = value_slots(message, rows, hex, row, from, end, number, out, next);
+        list = value_slots(message, rows, alone, row, from, end, number, out, list);
         number += 1;
     }
-    next
+    list
+}
+
+// The elements of a packed array.
+fn elements(
+    message: &[u8],
+    rows: &[u32],
+    alone: &mut [u32; 128],
+    row: usize,
+    out: &mut [u8],
+    s: Listing,
+) -> Listing {
+    let count = s.count;
+    let mut list = s;
+    let mut number: usize = 0;
+    while number < count {
+        list = slot(message, rows, alone, way::none(), row, number, out, list);
+        number += 1;
+    }
+    list
 }
 
 // The top-level fields of a table, each with one value for each record.
 fn columns(
     message: &[u8],
     rows: &[u32],
-    hex: bool,
+    alone: &mut [u32; 128],
     row: usize,
     out: &mut [u8],
-    at: usize,
-) -> usize {
+    s: Listing,
+) -> Listing {
     let end = shape::schema_end(rows, row);
-    let mut next = at;
+    let mut list = s;
     let mut key = sum(row, 2);
     while key < end {
         let field = shape::link(rows, key);
         let after = shape::link(rows, field);
-        next = values(message, rows, hex, row, field, after, out, next);
+        list = values(message, rows, alone, row, field, after, out, list);
         if after <= key {
-            return next;
+            return list;
         }
         key = after;
     }
-    next
+    list
 }
 
-// Says how many elements or records are not shown, if any.
-fn more(rows: &[u32], row: usize, out: &mut [u8], at: usize) -> usize {
-    let left = less(word(rows, row, 5), shown(rows, row));
-    if left == 0 {
-        return at;
-    }
-    let begun = text(out, at, b"   and the slots of ");
-    let shown = counted(out, begun, left, b" more record");
-    text(out, shown, b", not shown\n")
-}
-
-// The slots of a packed array or a table.
-pub fn all(
-    message: &[u8],
-    rows: &[u32],
-    hex: bool,
-    row: usize,
-    out: &mut [u8],
-    at: usize,
-) -> usize {
-    let end = shape::schema_end(rows, row);
+// The slots of a packed array or a table that are listed.
+fn listed(message: &[u8], rows: &[u32], row: usize, out: &mut [u8], s: Listing) -> Listing {
+    let mut alone = [0u32; 128];
+    narrowed::shared(rows, row, &mut alone);
     if shape::is_packed(rows, row) {
-        return values(message, rows, hex, row, row, sum(row, 1), out, at);
+        return elements(message, rows, &mut alone, row, out, s);
     }
     if word(rows, row, 1) == OBJECT as usize {
-        let next = columns(message, rows, hex, row, out, at);
-        return more(rows, row, out, next);
+        return columns(message, rows, &mut alone, row, out, s);
     }
-    let next = values(message, rows, hex, row, row, end, out, at);
-    more(rows, row, out, next)
+    let end = shape::schema_end(rows, row);
+    values(message, rows, &mut alone, row, sum(row, 2), end, out, s)
+}
+
+// How many elements or records of a packed array or a table are listed: as many as half of the room is enough for, so that others
+// are shown after it.
+fn counted_in(message: &[u8], rows: &[u32], row: usize, mut s: Listing) -> Listing {
+    let each = room::cost(message, rows, row);
+    let count = least(word(rows, row, 5), quotient(s.room / 2, each));
+    s.count = count;
+    s.room = less(s.room, room::product(count, each));
+    s
+}
+
+// Says how many elements or records are left out, if any.
+fn more(rows: &[u32], row: usize, out: &mut [u8], mut s: Listing) -> Listing {
+    if word(rows, row, 5) <= s.count {
+        return s;
+    }
+    let begun = text(out, s.at, b"   and the slots of ");
+    let shown = left(rows, row, s.count, out, begun);
+    s.at = text(out, shown, b", not shown; --at shows those of one\n");
+    s
+}
+
+// The slots of a packed array or a table, and what is left out of them.
+pub fn all(message: &[u8], rows: &[u32], row: usize, out: &mut [u8], s: Listing) -> Listing {
+    let list = listed(message, rows, row, out, counted_in(message, rows, row, s));
+    if list.hex {
+        return left_out(message, rows, row, payload_end(rows, row), out, list);
+    }
+    more(rows, row, out, list)
 }
 
 // The row of a packed array or a table, in words.
@@ -311,32 +324,45 @@ fn told(message: &[u8], rows: &[u32], row: usize, out: &mut [u8], at: usize) -> 
 }
 
 // The row and the slots of a packed array or a table; the row alone where not all of its rows are held.
-fn row_and_slots(message: &[u8], rows: &[u32], row: usize, out: &mut [u8], at: usize) -> usize {
-    let begun = told(message, rows, row, out, at);
+fn row_and_slots(
+    message: &[u8],
+    rows: &[u32],
+    row: usize,
+    out: &mut [u8],
+    mut s: Listing,
+) -> Listing {
+    let begun = told(message, rows, row, out, s.at);
     if held::is_cut(rows, row) {
-        return text(out, begun, b": its slots are not shown\n");
+        s.at = text(out, begun, b": its slots are not shown\n");
+        return s;
     }
-    let headed = text(out, begun, b"\n   first   width  address and value\n");
-    all(message, rows, false, row, out, headed)
+    s.at = text(out, begun, b"\n   first   width  address and value\n");
+    all(message, rows, row, out, s)
 }
 
 // One row: the slots of a packed array or a table, and nothing of any other.
-fn one(message: &[u8], rows: &[u32], row: usize, out: &mut [u8], at: usize) -> usize {
+fn one(message: &[u8], rows: &[u32], row: usize, out: &mut [u8], s: Listing) -> Listing {
     if shape::is_packed(rows, row) || shape::is_table(rows, row) {
-        return row_and_slots(message, rows, row, out, at);
+        return row_and_slots(message, rows, row, out, s);
     }
-    at
+    s
 }
 
 // The slots of each packed array and table before a row.
 fn before(message: &[u8], rows: &[u32], end: usize, out: &mut [u8], at: usize) -> usize {
-    let mut next = at;
+    let mut list = Listing {
+        hex: false,
+        count: 0,
+        byte: 0,
+        room: room::all(message),
+        at: at,
+    };
     let mut row: usize = 0;
     while row < end {
-        next = one(message, rows, row, out, next);
+        list = one(message, rows, row, out, list);
         row += 1;
     }
-    next
+    list.at
 }
 
 // The slots of each packed array and table, as far as rows are held.

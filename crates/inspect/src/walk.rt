@@ -18,6 +18,8 @@ pub struct Walk {
     pub depth: usize,
     // The byte after all that belongs to the rows opened so far, closing marks aside.
     pub end: usize,
+    // How many bytes of output are left for slots.
+    pub room: usize,
     // The place after what is shown in the block of output.
     pub at: usize,
 }
@@ -133,10 +135,27 @@ pub fn is_past(rows: &[u32], used: usize, w: Walk) -> bool {
     held::is_cut(rows, 0) && used <= w.row && w.end <= w.byte
 }
 
+// The byte after the no-ops that stand from a place on.
+fn noops_end(message: &[u8], from: usize) -> usize {
+    let mut at = from;
+    while at < message.len() && message[at] == NOOP {
+        at += 1;
+    }
+    at
+}
+
+// The byte after a closing mark, or after the no-ops that stand there.
+fn mark_end(message: &[u8], at: usize) -> usize {
+    if is_noop(message, at) {
+        return noops_end(message, at);
+    }
+    sum(at, 1)
+}
+
 // The byte after what a row has where the way has come to.
 fn own_end(message: &[u8], rows: &[u32], row: usize, at: usize) -> usize {
     if row == NONE {
-        return sum(at, 1);
+        return mark_end(message, at);
     }
     if at == word(rows, row, 2) {
         return head_end(message, rows, row);
@@ -144,7 +163,7 @@ fn own_end(message: &[u8], rows: &[u32], row: usize, at: usize) -> usize {
     if has_slots(rows, row) {
         return word(rows, row, 3);
     }
-    sum(at, 1)
+    mark_end(message, at)
 }
 
 // The first byte of the next row to be opened; the message's end after the last.

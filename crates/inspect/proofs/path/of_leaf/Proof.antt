@@ -1,4 +1,4 @@
--- `path::of_leaf`: a loop over rows. Assumes nothing.
+-- `path::of_leaf`: a loop over members. Assumes nothing.
 use borrow.Author.Needs.{needs}
 use Prim.Native.Nat.{_-_}
 use lib.ListN.{length}
@@ -7,10 +7,10 @@ use Rattle.inspect.proofs.path.of_leaf.Statement.{statement}
 use Rattle.inspect.proofs.path.of_leaf.Tie as tie
 
 abbrev Inv-loop : tie.InvT-loop
-Inv-loop message rows table leaf out₀ at schema end next₀ holder₀ row₀ out next holder row = length out ≡ length out₀
+Inv-loop message rows w out₀ at next₀ depth₀ out next depth = length out ≡ length out₀
 
 abbrev μ-loop : tie.MeasureT-loop
-μ-loop message rows table leaf out₀ at schema end next₀ holder₀ row₀ out next holder row = end - row
+μ-loop message rows w out₀ at next₀ depth₀ out next depth = w .depth - depth
 
 pub of-leaf-spec : {M : Type 1} → statement M
 of-leaf-spec =
@@ -18,11 +18,7 @@ of-leaf-spec =
     (tie.spec
     Inv-loop
     μ-loop
-    (λ c κs. search needs)
-    (λ c κs. search needs)
-    (λ c κs. search needs)
     (λ c. search needs)
-    (λ c κs. search needs)
     (λ c κs. search needs)
     (λ c. search needs)
     (λ c. search needs)

@@ -7,10 +7,10 @@ use Rattle.inspect.proofs.payloads.before.Statement.{statement}
 use Rattle.inspect.proofs.payloads.before.Tie as tie
 
 abbrev Inv-loop : tie.InvT-loop
-Inv-loop message rows end out₀ at next₀ row₀ out next row = length out ≡ length out₀
+Inv-loop message rows end out₀ at list₀ row₀ out list row = length out ≡ length out₀
 
 abbrev μ-loop : tie.MeasureT-loop
-μ-loop message rows end out₀ at next₀ row₀ out next row = end - row
+μ-loop message rows end out₀ at list₀ row₀ out list row = end - row
 
 pub before-spec : {M : Type 1} → statement M
 before-spec =
@@ -18,6 +18,7 @@ before-spec =
     (tie.spec
     Inv-loop
     μ-loop
+    (λ c κs. search needs)
     (λ c. search needs)
     (λ c κs. search needs)
     (λ c. search needs)

@@ -7,10 +7,10 @@ use Rattle.inspect.proofs.payloads.columns.Statement.{statement}
 use Rattle.inspect.proofs.payloads.columns.Tie as tie
 
 abbrev Inv-loop : tie.InvT-loop
-Inv-loop message rows hex row out₀ at end next₀ key₀ out next key = length out ≡ length out₀
+Inv-loop message rows alone₀ row out₀ end list₀ key₀ alone out list key = length out ≡ length out₀
 
 abbrev μ-loop : tie.MeasureT-loop
-μ-loop message rows hex row out₀ at end next₀ key₀ out next key = end - key
+μ-loop message rows alone₀ row out₀ end list₀ key₀ alone out list key = end - key
 
 pub columns-spec : {M : Type 1} → statement M
 columns-spec =

@@ -7,10 +7,10 @@ use Rattle.inspect.proofs.payloads.value_slots.Statement.{statement}
 use Rattle.inspect.proofs.payloads.value_slots.Tie as tie
 
 abbrev Inv-loop : tie.InvT-loop
-Inv-loop message rows hex row from end number out₀ at next₀ r₀ out next r = length out ≡ length out₀
+Inv-loop message rows alone₀ row from end number out₀ list₀ w₀ r₀ alone out list w r = length out ≡ length out₀
 
 abbrev μ-loop : tie.MeasureT-loop
-μ-loop message rows hex row from end number out₀ at next₀ r₀ out next r = end - r
+μ-loop message rows alone₀ row from end number out₀ list₀ w₀ r₀ alone out list w r = end - r
 
 pub value-slots-spec : {M : Type 1} → statement M
 value-slots-spec =
@@ -18,7 +18,9 @@ value-slots-spec =
     (tie.spec
     Inv-loop
     μ-loop
+    (λ c κs. search needs)
     (λ c. search needs)
+    (λ c κs. search needs)
     (λ c κs. search needs)
     (λ c. search needs)
     (λ c. search needs)

@@ -1,4 +1,4 @@
--- `payloads::values`: a loop over elements or records. Assumes nothing.
+-- `payloads::values`: a loop over records. Assumes nothing.
 use borrow.Author.Needs.{needs}
 use Prim.Native.Nat.{_-_}
 use lib.ListN.{length}
@@ -7,10 +7,10 @@ use Rattle.inspect.proofs.payloads.values.Statement.{statement}
 use Rattle.inspect.proofs.payloads.values.Tie as tie
 
 abbrev Inv-loop : tie.InvT-loop
-Inv-loop message rows hex row from end out₀ at count next₀ number₀ out next number = length out ≡ length out₀
+Inv-loop message rows alone₀ row from end out₀ count list₀ number₀ alone out list number = length out ≡ length out₀
 
 abbrev μ-loop : tie.MeasureT-loop
-μ-loop message rows hex row from end out₀ at count next₀ number₀ out next number = count - number
+μ-loop message rows alone₀ row from end out₀ count list₀ number₀ alone out list number = count - number
 
 pub values-spec : {M : Type 1} → statement M
 values-spec =
@@ -18,7 +18,6 @@ values-spec =
     (tie.spec
     Inv-loop
     μ-loop
-    (λ c κs. search needs)
     (λ c. search needs)
     (λ c κs. search needs)
     (λ c. search needs)

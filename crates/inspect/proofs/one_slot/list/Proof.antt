@@ -1,10 +1,10 @@
--- `payloads::list`: a loop over the indexes. Assumes nothing.
+-- `one_slot::list`: a loop over the indexes. Assumes nothing.
 use borrow.Author.Needs.{needs}
 use Prim.Native.Nat.{_-_}
 use lib.ListN.{length}
 use mathlib.Core.Path.{_≡_}
-use Rattle.inspect.proofs.payloads.list.Statement.{statement}
-use Rattle.inspect.proofs.payloads.list.Tie as tie
+use Rattle.inspect.proofs.one_slot.list.Statement.{statement}
+use Rattle.inspect.proofs.one_slot.list.Tie as tie
 
 abbrev Inv-loop : tie.InvT-loop
 Inv-loop indexes count out₀ at next₀ j₀ out next j = length out ≡ length out₀

@@ -1,0 +1,28 @@
+-- `payloads::elements`: a loop over elements. Assumes nothing.
+use borrow.Author.Needs.{needs}
+use Prim.Native.Nat.{_-_}
+use lib.ListN.{length}
+use mathlib.Core.Path.{_≡_}
+use Rattle.inspect.proofs.payloads.elements.Statement.{statement}
+use Rattle.inspect.proofs.payloads.elements.Tie as tie
+
+abbrev Inv-loop : tie.InvT-loop
+Inv-loop message rows alone row out₀ count list₀ number₀ out list number = length out ≡ length out₀
+
+abbrev μ-loop : tie.MeasureT-loop
+μ-loop message rows alone row out₀ count list₀ number₀ out list number = count - number
+
+pub elements-spec : {M : Type 1} → statement M
+elements-spec =
+    tie.close
+    (tie.spec
+    Inv-loop
+    μ-loop
+    (λ c. search needs)
+    (λ c κs. search needs)
+    (λ c κs. search needs)
+    (λ c. search needs)
+    (λ c. search needs)
+    (λ c. search needs)
+    (λ c. search needs)
+    (λ c. search needs))
