@@ -2,6 +2,7 @@
 use crate::integers::integer;
 use crate::numbers::less;
 use crate::numbers::low;
+use crate::numbers::more;
 use crate::pen::Pen;
 use crate::pen::letter;
 use crate::pen::put_number;
@@ -123,27 +124,69 @@ pub fn type_header(buffer: &mut [u8], pen: Pen, mark: u8) -> Pen {
     pen.put(buffer, b'$').put(buffer, mark).put(buffer, b'#')
 }
 
-// Writes the length of a text and the text.
+// Writes so many bytes below 128, or, as a fault, now and then another.
+fn letters(buffer: &mut [u8], pen: Pen, bytes: u32) -> Pen {
+    let mut after = pen;
+    let mut left = bytes;
+    while 0 < left {
+        let slip = after.slip(100);
+        let drawn = slip.draw(128);
+        let b = if slip.value == 1 {
+            more(drawn.value, 128)
+        } else {
+            drawn.value
+        };
+        after = drawn.put(buffer, low(b));
+        left -= 1;
+    }
+    after
+}
+
+// Writes the length of a text and the text, in half of them of bytes below 128 alone.
 fn sized(buffer: &mut [u8], pen: Pen, bytes: u32) -> Pen {
-    let after = integer(buffer, pen, bytes);
+    let after = integer(buffer, pen, bytes).draw(2);
+    if after.value == 0 {
+        return letters(buffer, after, bytes);
+    }
     characters(buffer, after, bytes)
 }
 
-// Writes a text: short, or now and then longer than a byte can say.
-pub fn text(buffer: &mut [u8], pen: Pen) -> Pen {
+// Draws how many bytes a text has: few; about 16 or about 32, which are tested at a time; or now and then more than a byte can say.
+fn text_bytes(pen: Pen) -> Pen {
     let kind = pen.draw(64);
-    let drawn = kind.draw(if kind.value == 0 { 400 } else { 9 });
+    let choice = kind.value;
+    let mut drawn = kind.draw(9);
+    match choice {
+        0 => kind.draw(400),
+        1 | 2 | 3 | 4 => {
+            drawn.value = more(drawn.value, 12);
+            drawn
+        }
+        5 | 6 | 7 | 8 => {
+            drawn.value = more(drawn.value, 28);
+            drawn
+        }
+        _ => drawn,
+    }
+}
+
+// Writes a text.
+pub fn text(buffer: &mut [u8], pen: Pen) -> Pen {
+    let drawn = text_bytes(pen);
     let after = drawn.put(buffer, b'S');
     sized(buffer, after, drawn.value)
 }
 
-// Writes a key: of few letters, so that keys repeat, or none.
+// Writes a key: of few letters, so that keys repeat, none, or as many as a text.
 pub fn key(buffer: &mut [u8], pen: Pen) -> Pen {
     let drawn = pen.draw(8);
     let choice = drawn.value;
     match choice {
         0 => sized(buffer, drawn, 0),
-        1 => sized(buffer, drawn, 4),
+        1 => {
+            let many = text_bytes(drawn);
+            sized(buffer, many, many.value)
+        }
         _ => {
             let name = integer(buffer, drawn, 1).draw(3);
             name.put(buffer, letter(b"abc", name.value))

@@ -99,10 +99,11 @@ fn typed_object(buffer: &mut [u8], pen: Pen) -> Pen {
     pairs(buffer, counted, mark, many.value)
 }
 
-// Draws how many members an array or an object has: one at least if more are to be opened.
+// Draws how many members an array or an object has: few, or now and then many; one at least if more are to be opened.
 fn members(pen: Pen) -> Pen {
     if pen.nest == 0 {
-        return pen.draw(5);
+        let kind = pen.draw(16);
+        return kind.draw(if kind.value == 0 { 40 } else { 5 });
     }
     let mut drawn = pen.draw(2);
     drawn.value = more(drawn.value, 1);

@@ -12,7 +12,7 @@ use show::numbers::number;
 use show::scalars::valued;
 
 // Index j; 0 where there is none.
-fn index(indexes: &[usize], j: usize) -> usize {
+pub fn index(indexes: &[usize], j: usize) -> usize {
     if j < indexes.len() {
         return indexes[j];
     }

@@ -1,5 +1,6 @@
 // Why an address is refused, in words.
 use crate::held;
+use crate::one_slot::index;
 use grid::shape;
 use rows::word;
 use show::block::line;
@@ -11,14 +12,6 @@ use show::scalars;
 
 // The refusal of indexes that are not there.
 pub const NOT_THERE: u32 = 10;
-
-// Index j; 0 where there is none.
-fn index(indexes: &[usize], j: usize) -> usize {
-    if j < indexes.len() {
-        return indexes[j];
-    }
-    0
-}
 
 // The place of the first of so many indexes that is too large; their number where none is.
 fn first_over(rows: &[u32], row: usize, indexes: &[usize], count: usize) -> usize {
