@@ -8,7 +8,7 @@
 
 using Clock = std::chrono::steady_clock;
 
-// The best time of a run in nanoseconds: runs until half a second is gone, at least five.
+// The best time of a run in nanoseconds: runs until half a second is gone, at least five and at most 100,000.
 template <class Run> static double best(Run run)
 {
     double least = 1e18, total = 0;

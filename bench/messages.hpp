@@ -39,15 +39,34 @@ inline Bytes scalars(size_t size, bool ordered)
     return b;
 }
 
-// {"id": U, "ok": T, "t": d}
-inline Bytes objects(size_t size)
+// scalars of one mark
+inline Bytes alike(size_t size)
 {
     Bytes b{'['};
     Chance c;
-    while (b.size() + 32 < size) {
+    while (b.size() + 16 < size) put(b, {'I', (int)(c.next() & 0xFF), (int)(c.next() & 0xFF)});
+    b.push_back(']');
+    return b;
+}
+
+// a text of letters
+inline void letters(Bytes &b, Chance &c, int n)
+{
+    put(b, {'S', 'U', n});
+    for (int i = 0; i < n; i++) b.push_back((uint8_t)('a' + c.next() % 26));
+}
+
+// {"id": U, "ok": T, "t": d}; or with texts of 3 to 11 letters and of one: {"id": U, "name": S, "ok": T, "unit": S, "t": d}
+inline Bytes objects(size_t size, bool texts)
+{
+    Bytes b{'['};
+    Chance c;
+    while (b.size() + 64 < size) {
         b.push_back('{');
         key(b, "id"); put(b, {'U', (int)(c.next() & 0xFF)});
+        if (texts) { key(b, "name"); letters(b, c, 3 + (int)(c.next() % 9)); }
         key(b, "ok"); b.push_back(c.next() & 1 ? 'T' : 'F');
+        if (texts) { key(b, "unit"); letters(b, c, 1); }
         key(b, "t"); put(b, {'d', 0, 0, 0xAC, 0x41});
         b.push_back('}');
     }
@@ -60,11 +79,7 @@ inline Bytes shortTexts(size_t size)
 {
     Bytes b{'['};
     Chance c;
-    while (b.size() + 32 < size) {
-        int n = 4 + c.next() % 16;
-        put(b, {'S', 'U', n});
-        for (int i = 0; i < n; i++) b.push_back((uint8_t)('a' + c.next() % 26));
-    }
+    while (b.size() + 32 < size) letters(b, c, 4 + (int)(c.next() % 16));
     b.push_back(']');
     return b;
 }
@@ -138,7 +153,9 @@ inline std::vector<Message> messages(size_t size)
         {"floor of 40 rooms by columns", floorOf(40, true)},
         {"mixed scalars", scalars(size, false)},
         {"scalars in one order", scalars(size, true)},
-        {"small objects", objects(size)},
+        {"scalars of one mark", alike(size)},
+        {"small objects", objects(size, false)},
+        {"small objects with texts", objects(size, true)},
         {"short texts", shortTexts(size)},
         {"one ASCII text", text(size, true)},
         {"one mixed UTF-8 text", text(size, false)},

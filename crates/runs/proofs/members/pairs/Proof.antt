@@ -33,7 +33,10 @@ put-alone-requires : tie.Need-put-alone-requires Inv-loop μ-loop
 put-alone-requires c κs = let k = c .before .before .before .before .key-end .ensures (omega arith) in omega arith
 
 read-mark : tie.Need-shared-slice-read-put-value Inv-loop μ-loop
-read-mark c = let s = value-inside _ _ _ (c .before .before .before .before .before .before .before .value-end .ensures (omega arith)) in omega arith
+read-mark c =
+    let k = c .before .before .before .before .before .before .before .before .before .key-end .ensures (omega arith) in
+    let s = value-inside _ _ _ (c .before .before .before .before .before .before .before .value-end .ensures (omega arith)) in
+    omega arith
 
 put-value-requires : tie.Need-put-value-requires Inv-loop μ-loop
 put-value-requires c κs =
