@@ -6,11 +6,10 @@ use mathlib.Core.List.{List}
 use lib.ListN.{length, getD}
 use borrow.Author.Tests.{le-leb, lt-leb, lt-ltb, le-ltb}
 use Rattle.format.specs.Outcome.{fault, done, _>>=_, _>>_, guard}
-use Rattle.format.specs.Limits.{limit}
 use Rattle.format.specs.Refusals.{endsTooEarly, notAllowed, overLimit, wrongInteger}
 use Rattle.format.specs.Marks.{isInteger, width}
 use Rattle.format.specs.Bytes.{little, bytes, reach, byte, oneOf}
-use Rattle.format.specs.Integers.{isNegative, number, integer}
+use Rattle.format.specs.Integers.{isNegative, number, integerTo}
 
 module _ (m : List ℕ) (highest mark place start : ℕ) where
   pub number-early : length m < start + width mark → number m highest mark place start ≡ fault endsTooEarly (length m)
@@ -32,16 +31,16 @@ module _ (m : List ℕ) (highest mark place start : ℕ) where
       unfolding number reach guard _>>_
       number-done h = rw (le-leb _ _ there, sign, le-leb _ _ h)
 
-module _ (m : List ℕ) (at : ℕ) where
-  pub integer-early : length m ≤ at → integer m at ≡ fault endsTooEarly (length m)
-  unfolding integer oneOf byte guard _>>_ _>>=_
+module _ (m : List ℕ) (highest at : ℕ) where
+  pub integer-early : length m ≤ at → integerTo m highest at ≡ fault endsTooEarly (length m)
+  unfolding integerTo oneOf byte guard _>>_ _>>=_
   integer-early h = rw (le-ltb _ _ h)
 
   module _ (there : at < length m) where
-    pub integer-other : isInteger (getD m at 0) ≡ false → integer m at ≡ fault notAllowed at
-    unfolding integer oneOf byte guard _>>_ _>>=_
+    pub integer-other : isInteger (getD m at 0) ≡ false → integerTo m highest at ≡ fault notAllowed at
+    unfolding integerTo oneOf byte guard _>>_ _>>=_
     integer-other e = rw (lt-ltb _ _ there, e)
 
-    pub integer-number : isInteger (getD m at 0) ≡ true → integer m at ≡ number m limit (getD m at 0) at (at + 1)
-    unfolding integer oneOf byte guard _>>_ _>>=_
+    pub integer-number : isInteger (getD m at 0) ≡ true → integerTo m highest at ≡ number m highest (getD m at 0) at (at + 1)
+    unfolding integerTo oneOf byte guard _>>_ _>>=_
     integer-number e = rw (lt-ltb _ _ there, e)

@@ -2,11 +2,11 @@
 use mathlib.Core.Path.{_≡_, refl, sym, ap, _∙_}
 use mathlib.Core.List.{List, [], _∷_}
 use lib.ListN.{getD}
-use Rattle.format.specs.Tokens.{Kind, kindNumber, scalar, text, highPrecision, key, array, object, packed, table, leaf, schemaRecord, fixedArray, dimension}
+use Rattle.format.specs.Tokens.{Kind, kindNumber, scalar, text, highPrecision, key, array, object, packed, table, leaf, schemaRecord, fixedArray, dimension, extension}
 
 -- the kinds by their numbers; 0 is none's
 byNumber : List Kind
-byNumber = scalar ∷ scalar ∷ text ∷ highPrecision ∷ key ∷ array ∷ object ∷ packed ∷ table ∷ leaf ∷ schemaRecord ∷ fixedArray ∷ dimension ∷ []
+byNumber = scalar ∷ scalar ∷ text ∷ highPrecision ∷ key ∷ array ∷ object ∷ packed ∷ table ∷ leaf ∷ schemaRecord ∷ fixedArray ∷ dimension ∷ extension ∷ []
 
 -- a kind is found by its number
 found : (k : Kind) → getD byNumber (kindNumber k) scalar ≡ k
@@ -23,6 +23,7 @@ found leaf = refl
 found schemaRecord = refl
 found fixedArray = refl
 found dimension = refl
+found extension = refl
 
 -- so kinds of one number are the same
 pub same-number : (k l : Kind) → kindNumber k ≡ kindNumber l → k ≡ l

@@ -3,6 +3,7 @@ use Prim.Native.Nat.{ℕ}
 use mathlib.Core.Bool.{Bool, true, not}
 use lib.Ieee.{binary32, binary64, toBits, isNan, nanBits}
 use Rattle.format.specs.Outcome.{Outcome, fault, done}
+use Rattle.format.specs.Grammars.{Grammar, old, new}
 use Rattle.format.specs.Tokens as Tokens
 use Rattle.format.specs.Addresses.{Region}
 use Rattle.format.specs.Values as Values
@@ -12,8 +13,10 @@ use Rattle.format.specs.declared.answers.Located.{Located}
 use Rattle.format.specs.declared.answers.Located.the-variants.{At, Refused as NotLocated}
 use Rattle.format.specs.declared.answers.Found.{Found}
 use Rattle.format.specs.declared.answers.Found.the-variants.{Row, Refused as NotFound}
+use Rattle.format.specs.declared.answers.Edition.{Edition}
+use Rattle.format.specs.declared.answers.Edition.the-variants.{Old, New}
 use Rattle.format.specs.declared.answers.Kind.{Kind}
-use Rattle.format.specs.declared.answers.Kind.the-variants.{Scalar, Text, HighPrecision, Key, Array, Object, Packed, Table, Leaf, SchemaRecord, FixedArray, Dimension}
+use Rattle.format.specs.declared.answers.Kind.the-variants.{Scalar, Text, HighPrecision, Key, Array, Object, Packed, Table, Leaf, SchemaRecord, FixedArray, Dimension, Extension}
 use Rattle.format.specs.declared.answers.Value.{Value}
 use Rattle.format.specs.declared.answers.Value.the-variants.{Null, Boolean, Signed, Unsigned, Single, SingleNan, Double, DoubleNan, Char, Byte}
 use Rattle.format.specs.declared.answers.Valued.{Valued}
@@ -39,6 +42,11 @@ abbrev pub found : Found → Outcome ℕ
 found (Row n) = done n
 found (NotFound n) = fault n 0
 
+-- the grammar that an edition stands for
+abbrev pub grammarOf : Edition → Grammar
+grammarOf Old = old
+grammarOf New = new
+
 -- the kind that a case stands for
 abbrev pub kindOf : Kind → Tokens.Kind
 kindOf Scalar = Tokens.scalar
@@ -53,6 +61,7 @@ kindOf Leaf = Tokens.leaf
 kindOf SchemaRecord = Tokens.schemaRecord
 kindOf FixedArray = Tokens.fixedArray
 kindOf Dimension = Tokens.dimension
+kindOf Extension = Tokens.extension
 
 -- the value that a case stands for: singles and doubles by their bits
 abbrev pub valueOf : Value → Values.Value

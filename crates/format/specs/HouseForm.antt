@@ -1,5 +1,6 @@
 -- 01, "House form": 01's own name for the form in which the rewriter writes a message. No `N`; lengths, counts and dimensions
--- with the smallest of `U u m`; arrays and objects counted and untyped; dimensions marked, in brackets; the rest unchanged.
+-- with the smallest of `U u m`; arrays and objects counted and untyped; dimensions marked, in brackets; the rest unchanged. Request
+-- No. 1: so an extension's id keeps its mark.
 use Prim.Native.Nat.{ℕ, zero, suc, _/_, _%_}
 use mathlib.Core.Bool.{_&&_}
 use mathlib.Core.List.{List, [], _∷_, _++_}
@@ -10,11 +11,13 @@ use Rattle.format.specs.Outcome.{Outcome, fault, done, _>>=_, _>>_, guar
 use Rattle.format.specs.Limits.{limit}
 use Rattle.format.specs.Refusals.{outputTooLong}
 use Rattle.format.specs.Marks.{bracket, brace, opens, closes, width, 'S', '#', '$', '[', ']'}
-use Rattle.format.specs.Tokens.{Kind, scalar, text, highPrecision, key, array, object, packed, table, leaf, schemaRecord, fixedArray, dimension, Token, plainCount, firstSlowest, Forest, none, node}
+use Rattle.format.specs.Tokens.{Kind, scalar, text, highPrecision, key, array, object, packed, table, leaf, schemaRecord, fixedArray, dimension, extension, Token, plainCount, firstSlowest, Forest, none, node}
 use Rattle.format.specs.Rows.{zeros, filled}
 use Rattle.format.specs.Bytes.{bytes}
 use Rattle.format.specs.Integers.{smallest}
+use Rattle.format.specs.Extensions.{idBytes}
 use Rattle.format.specs.Read.{read, wordsAfter}
+use Rattle.format.specs.Grammars.{Grammar}
 
 -- a number in so many bytes, little-endian
 unfoldable pub digits : ℕ → ℕ → List ℕ
@@ -63,6 +66,7 @@ module _ (m : List ℕ) where
   token schemaRecord t under = opens brace ∷ whole under ++ closes brace ∷ []
   token fixedArray t under = opens bracket ∷ whole under ++ closes bracket ∷ []
   token dimension t under = smallInteger (t .count)
+  token extension t under = t .mark ∷ idBytes m (t .first) ++ smallInteger (t .extent) ++ payloadOf t
 
   unfoldable pub written : Forest → Written
   written none = record { first = []; rest = [] }
@@ -73,9 +77,9 @@ module _ (m : List ℕ) where
   house f = whole (written f)
 
   -- rewriting with so many rows lent and an output of `room` bytes: the reader's refusal, then 11; else the house form
-  unfoldable pub rewrite : ℕ → ℕ → Outcome (List ℕ)
-  rewrite rowsLent room = do
-    f ← read m rowsLent
+  unfoldable pub rewrite : ℕ → Grammar → ℕ → Outcome (List ℕ)
+  rewrite rowsLent grammar room = do
+    f ← read m rowsLent grammar
     guard (leb (length (house f)) room && leb (length (house f)) limit) outputTooLong 0
     done (house f)
 

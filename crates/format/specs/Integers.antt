@@ -1,4 +1,4 @@
--- Integers that are lengths, counts and dimensions. In an integer: mark, end of message, sign, limit.
+-- Integers that are lengths, counts, dimensions and ids. In an integer: mark, end of message, sign, limit.
 use Prim.Native.Nat.{ℕ, _+_, _*_, _^_}
 use mathlib.Core.Bool.{Bool, not, _&&_}
 use mathlib.Core.List.{List}
@@ -28,8 +28,12 @@ module _ (m : List ℕ) where
     guard (leb n highest) overLimit place
     done (n, start + width mark)
 
-  -- an integer record: a mark and its number
-  unfoldable pub integer : ℕ → Parsed ℕ
-  integer at = do
+  -- an integer record: a mark and its number, at most `highest`
+  unfoldable pub integerTo : ℕ → ℕ → Parsed ℕ
+  integerTo highest at = do
     mark ← oneOf m isInteger at
-    number limit mark at (at + 1)
+    number highest mark at (at + 1)
+
+  -- a length, a count or a dimension
+  abbrev pub integer : ℕ → Parsed ℕ
+  integer at = integerTo limit at

@@ -3,6 +3,7 @@ pub mod Outcome
 pub mod Limits
 pub mod Refusals
 pub mod Marks
+pub mod Grammars
 pub mod Text
 pub mod JsonNumber
 pub mod Tokens
@@ -18,6 +19,7 @@ pub mod Scalars
 pub mod Dimensions
 pub mod Schemas
 pub mod Containers
+pub mod Extensions
 pub mod Read
 pub mod Addresses
 pub mod Half

@@ -5,6 +5,10 @@ use Prim.Native.Nat.{ℕ}
 abbrev pub limit : ℕ
 limit = 1_048_576
 
+-- request No. 1: an extension's id
+abbrev pub idLimit : ℕ
+idLimit = 4_294_967_295
+
 -- a record's bytes
 abbrev pub recordLimit : ℕ
 recordLimit = 65_536

@@ -14,6 +14,9 @@ abbrev pub 'C' : ℕ
 abbrev pub 'D' : ℕ
 'D' = 0x44
 
+abbrev pub 'E' : ℕ
+'E' = 0x45
+
 abbrev pub 'F' : ℕ
 'F' = 0x46
 

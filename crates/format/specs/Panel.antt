@@ -1,8 +1,8 @@
--- 01, "The panel": what its three calls answer from the message only. Rows count as enough.
+-- 01, "The panel": what its three calls answer from the message only. Rows count as enough. Request
+-- No. 1: the edition is the new one.
 use Prim.Native.Nat.{ℕ, zero, suc, _+_}
 use mathlib.Core.Bool.{_&&_}
 use mathlib.Core.List.{List, [], _∷_, _++_, map}
-use lib.ListN.{length}
 use lib.Dec.{eqb}
 use Rattle.format.specs.Conditions.{if_then_else_}
 use Rattle.format.specs.Outcome.{Outcome, fault, done, numberOf, placeOf, _>>=_}
@@ -11,7 +11,8 @@ use Rattle.format.specs.Tokens.{Token, table, isKind, Forest, none, node
 use Rattle.format.specs.Indexes.{below}
 use Rattle.format.specs.Storage.{Slot, memberRow, leaves, slotsOf}
 use Rattle.format.specs.Addresses.{Region}
-use Rattle.format.specs.Read.{read, rowsUsed}
+use Rattle.format.specs.Read.{readWhole, rowsUsed}
+use Rattle.format.specs.Grammars.{new}
 
 -- a table: its row, its token, and those below it
 pub record Table : Type 0 where
@@ -42,22 +43,18 @@ slotFor leafRow number [] = fault notThere 0
 slotFor leafRow number (s ∷ ss) =
     if eqb (s .leafRow) leafRow && eqb (s .element) number then done s else slotFor leafRow number ss
 
--- reading with rows enough: a token has a byte of its own, so n rows are enough for n bytes, and 8 is never given
-unfoldable pub readWhole : List ℕ → Outcome Forest
-readWhole m = read m (length m)
-
 -- number and place
 unfoldable pub numberAndPlace : List ℕ → ℕ × ℕ
-numberAndPlace m = (numberOf (readWhole m), placeOf (readWhole m))
+numberAndPlace m = (numberOf (readWhole m new), placeOf (readWhole m new))
 
 -- rows needed
-unfoldable pub rowsNeeded : List ℕ → Outcome ℕ
-rowsNeeded m = rowsUsed (readWhole m)
+abbrev pub rowsNeeded : List ℕ → Outcome ℕ
+rowsNeeded m = rowsUsed (readWhole m new)
 
 -- a slot's first byte and width, with its mark, by table, leaf and record, all from 0, records in storage order
 unfoldable pub panelSlot : List ℕ → ℕ → ℕ → ℕ → Outcome Region
 panelSlot m tableNumber leafNumber recordNumber = do
-  f ← readWhole m
+  f ← readWhole m new
   t ← pick (tables 0 f) tableNumber
   leafRow ← pick (leafRows t) leafNumber
   s ← slotFor leafRow recordNumber (slotsOf (t .row) (t .token) (t .under) (below (t .token .count)))

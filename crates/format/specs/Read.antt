@@ -1,5 +1,7 @@
--- Reading: a message and the number of rows lent, to the forest of its tokens or the first fault reached from left to right.
+-- Reading: a message, the number of rows lent and an edition's grammar, to the forest of its tokens or the first fault reached from left
+-- to right.
 use Prim.Native.Nat.{ℕ, zero, suc, _+_}
+use mathlib.Core.Bool.{_&&_}
 use mathlib.Core.List.{List}
 use lib.ListN.{length}
 use lib.Dec.{leb, eqb}
@@ -7,15 +9,17 @@ use Rattle.format.specs.Conditions.{if_then_else_}
 use Rattle.format.specs.Outcome.{Outcome, fault, done, _>>=_, _>>_, guard}
 use Rattle.format.specs.Limits.{limit, valueLevels}
 use Rattle.format.specs.Refusals.{messageTooLong, notAllowed, tooDeep, bytesAfter}
-use Rattle.format.specs.Marks.{Opening, bracket, brace, isScalar, 'H', 'S', '[', left-brace}
+use Rattle.format.specs.Marks.{Opening, bracket, brace, isScalar, 'E', 'H', 'S', '[', left-brace}
 use Rattle.format.specs.Tokens.{text as textKind, highPrecision, Forest, size}
 use Rattle.format.specs.Rows.{rowsIn, allWords, zeros, filled}
 use Rattle.format.specs.Bytes.{byte, skip}
 use Rattle.format.specs.Sequences.{Reader}
 use Rattle.format.specs.Scalars.{scalar, text}
 use Rattle.format.specs.Containers.{containerBy}
+use Rattle.format.specs.Extensions.{extension}
+use Rattle.format.specs.Grammars.{Grammar}
 
-module _ (m : List ℕ) (rowsLent : ℕ) where
+module _ (m : List ℕ) (rowsLent : ℕ) (grammar : Grammar) where
   -- a value, given what reads a container
   unfoldable pub valueBy : (Opening → Reader) → Reader
   valueBy nested at row = do
@@ -25,6 +29,7 @@ module _ (m : List ℕ) (rowsLent : ℕ) where
         if eqb mark 'H' then text m rowsLent highPrecision 'H' at row else
         if eqb mark '[' then nested bracket at row else
         if eqb mark left-brace then nested brace at row else
+        if grammar .extensions && eqb mark 'E' then extension m rowsLent at row else
         fault notAllowed at
 
   -- a container, with so many levels of value nesting left
@@ -40,9 +45,13 @@ module _ (m : List ℕ) (rowsLent : ℕ) where
     guard (eqb (skip m next) (length m)) bytesAfter (skip m next)
     done f
 
+-- reading with rows enough: a token has a byte of its own, so n rows are enough for n bytes, and 8 is never given
+unfoldable pub readWhole : List ℕ → Grammar → Outcome Forest
+readWhole m grammar = read m (length m) grammar
+
 -- reading into lent words
-unfoldable pub readInto : List ℕ → List ℕ → Outcome Forest
-readInto m ws = read m (rowsIn ws)
+unfoldable pub readInto : List ℕ → List ℕ → Grammar → Outcome Forest
+readInto m ws grammar = read m (rowsIn ws) grammar
 
 -- beside number and place, the rows used
 unfoldable pub rowsUsed : Outcome Forest → Outcome ℕ

@@ -13,7 +13,7 @@ endsTooEarly = 2
 abbrev pub notAllowed : ℕ
 notAllowed = 3
 
--- content wrong (text, high-precision number, char over 127, boolean not `T` or `F`): its first byte
+-- content wrong (text, high-precision number, char over 127, boolean not `T` or `F`): its first byte; an extension's size: the `E`
 abbrev pub wrongContent : ℕ
 wrongContent = 4
 

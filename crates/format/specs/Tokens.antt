@@ -7,7 +7,7 @@ use Rattle.format.specs.Conditions.{if_then_else_}
 
 -- the kinds of a token, and the number that each has in the rows
 pub data Kind : Type 0 where
-  scalar text highPrecision key array object packed table leaf schemaRecord fixedArray dimension : Kind
+  scalar text highPrecision key array object packed table leaf schemaRecord fixedArray dimension extension : Kind
 
 abbrev pub kindNumber : Kind → ℕ
 kindNumber scalar = 1
@@ -22,6 +22,7 @@ kindNumber leaf = 9
 kindNumber schemaRecord = 10
 kindNumber fixedArray = 11
 kindNumber dimension = 12
+kindNumber extension = 13
 
 -- a token: its kind, its mark, its first byte, its first payload byte (in a schema its offset in the record), its payload's
 -- length (in a schema its width), its count and its order

@@ -21,6 +21,12 @@ pub enum Found {
     Refused(u32),
 }
 
+// The edition that a message is read by: the old series sends no extensions, the new one does.
+pub enum Edition {
+    Old,
+    New,
+}
+
 // A token's kind.
 pub enum Kind {
     Scalar,
@@ -35,6 +41,7 @@ pub enum Kind {
     SchemaRecord,
     FixedArray,
     Dimension,
+    Extension,
 }
 
 impl Kind {
@@ -55,6 +62,7 @@ impl Kind {
             Kind::SchemaRecord => 10,
             Kind::FixedArray => 11,
             Kind::Dimension => 12,
+            Kind::Extension => 13,
         }
     }
 }

@@ -3,6 +3,9 @@
 // Of a message's bytes, of a length, a count, a dimension and a product of dimensions.
 pub const LIMIT: u32 = 1_048_576;
 
+// Of an extension's id.
+pub const ID_LIMIT: u32 = 4_294_967_295;
+
 // Of a record's bytes.
 pub const RECORD_LIMIT: usize = 65_536;
 

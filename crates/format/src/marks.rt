@@ -40,6 +40,8 @@ pub const TEXT: u8 = b'S';
 
 pub const HIGH_PRECISION: u8 = b'H';
 
+pub const EXTENSION: u8 = b'E';
+
 pub const NOOP: u8 = b'N';
 
 pub const COUNT: u8 = b'#';
@@ -217,6 +219,8 @@ impl Mark {
     pub const TEXT: Mark = Mark(TEXT);
 
     pub const HIGH_PRECISION: Mark = Mark(HIGH_PRECISION);
+
+    pub const EXTENSION: Mark = Mark(EXTENSION);
 
     pub const NOOP: Mark = Mark(NOOP);
 
