@@ -7,7 +7,10 @@ use mathlib.Core.List.{List}
 use mathlib.Core.Logic.{inl, inr}
 use native.Mathlib.Omega.{arith}
 use lib.ListN.{length, getD}
-use Rattle.format.specs.Outcome.{Outcome, done, Parsed, _>>=_, _>>_, guard}
+use Rattle.format.specs.Grammars.{Grammar}
+use Rattle.format.specs.Conditions.{if_then_else_}
+use Rattle.format.specs.Refusals.{notAllowed}
+use Rattle.format.specs.Outcome.{Outcome, fault, done, Parsed, _>>=_, _>>_, guard}
 use Rattle.format.specs.Marks.{width}
 use Rattle.format.specs.Tokens.{Token, Forest, none, node}
 use Rattle.format.specs.Bytes.{skip, byte}
@@ -20,7 +23,7 @@ use Rattle.laws.proofs.Holds.{Holds, refused, holds, bind-law, then-law, any-la
 use Rattle.laws.proofs.Skips.{skip-on}
 use Rattle.laws.proofs.Order.{isCut}
 use Rattle.laws.proofs.Slotless.{none-slotless, slots-split, uncut-slots}
-use Rattle.laws.proofs.Bounds.{payloadEnd-law}
+use Rattle.laws.proofs.Bounds.{byte-is, payloadEnd-law}
 use Rattle.laws.proofs.Rules.{Part, header, upTo, whole, Passes, passes-less, nothing-passes, Relation, Rules}
 use Rattle.laws.proofs.Related.{value-related}
 use Rattle.changed.proofs.Fixed.{Fixed, bytes-fixed, skip-fixed}
@@ -70,6 +73,12 @@ module _ (m m′ : List ℕ) where
     guard-follows true n p h = h refl
     guard-follows false n p h = refused λ _. tt
 
+    extended-follows : {A : Type 0} {part : A → Part} {from least : ℕ} {o o′ : Outcome A} (b : Bool) (p : ℕ) → Follow A part from least o o′
+        → Follow A part from least (if b then o else fault notAllowed p) (if b then o′ else fault notAllowed p)
+    unfolding if_then_else_
+    extended-follows true p h = h
+    extended-follows false p h = refused λ _. tt
+
     -- a part that gave `b` of the first message, and the rest: if all is kept, the second gives `b` too, or is refused
     bind-follows : {A B : Type 0} {part : A → Part} {from least from′ least′ : ℕ} {o : Outcome A} (o′ : Outcome B) (k′ : B → Outcome A) (b : B)
         → from ≤ from′ → least ≤ least′
@@ -84,14 +93,11 @@ module _ (m m′ : List ℕ) where
     before-slots : {from end least : ℕ} (p : Part) → end ≤ least → Passes least p → Kept (p .0) from (p .1) → Fixed m m′ from end
     before-slots p h s c i k l = let x = s .on in c i k (omega arith) λ z. let y = s .cut i z in omega arith
 
-    byte-is : (l : List ℕ) (at : ℕ) → Holds (Unit {0}) (λ b. b ≡ getD l at 0) (byte l at)
-    unfolding byte
-    byte-is l at = then-law (any-law _) λ _. holds refl
-
-    look-follows : {A : Type 0} {part : A → Part} {k k′ : ℕ → Outcome A} (from least at : ℕ) → from ≤ at → at < least → ((b : ℕ) → Follow A part from least (k b) (k′ b))
+    look-follows : {A : Type 0} {part : A → Part} {k k′ : ℕ → Outcome A} (from least at : ℕ) → from ≤ at → at < least
+        → ((b : ℕ) → b ≡ getD m at 0 → Follow A part from least (k b) (k′ b))
         → Follow A part from least (byte m at >>= k) (byte m′ at >>= k′)
     look-follows {part = part} {k′ = k′} from least at h l f = bind-law (byte-is m at) λ b e. bind-follows (byte m′ at) k′ b (omega arith) (omega arith)
-        (λ a s c. weaken (λ b′ e′. e′ ∙ before-slots {end = least} (part a) (omega arith) s c at h l ∙ sym e) (byte-is m′ at)) (f b)
+        (λ a s c. weaken (λ b′ e′. e′ ∙ before-slots {end = least} (part a) (omega arith) s c at h l ∙ sym e) (byte-is m′ at)) (f b e)
 
     count-follows : (highest mark place start : ℕ)
         → Follow (ℕ × ℕ) (header (λ (n : ℕ × ℕ). n .1)) start (start + width mark) (number m highest mark place start) (number m′ highest mark place start)
@@ -157,8 +163,8 @@ module _ (m m′ : List ℕ) where
           rw e (f .same λ i p. c i (omega arith));
     }
 
-    module _ (rowsLent : ℕ) where
-      rules : Rules m m′ rowsLent rowsLent Follow
+    module _ (rowsLent : ℕ) (grammar : Grammar) where
+      rules : Rules m m′ rowsLent rowsLent grammar grammar Follow
       rules = record {
         longer = omega arith;
         finish = finish-follows;
@@ -168,6 +174,7 @@ module _ (m m′ : List ℕ) where
         headed = headed-follows;
         test = guard-follows;
         row-left = λ at row h. test-follows _ _ h;
+        extended = λ b p _ h. extended-follows _ p h;
         look = look-follows;
         count = count-follows;
         payload = payload-follows;
@@ -179,8 +186,8 @@ module _ (m m′ : List ℕ) where
       }
 
       -- a message: the same tokens, or a refusal
-      pub read-follows : Holds (Unit {0}) (λ f. ((i : ℕ) → (InSlots i f → ⊥) → getD m′ i 0 ≡ getD m i 0) → Holds (Unit {0}) (λ f′. f′ ≡ f) (Read.read m′ rowsLent))
-          (Read.read m rowsLent)
+      pub read-follows : Holds (Unit {0}) (λ f. ((i : ℕ) → (InSlots i f → ⊥) → getD m′ i 0 ≡ getD m i 0) → Holds (Unit {0}) (λ f′. f′ ≡ f) (Read.read m′ rowsLent grammar))
+          (Read.read m rowsLent grammar)
       unfolding Read.read spaced
-      read-follows = then-law (any-law _) λ _. bind-law (value-related m m′ rowsLent rowsLent Follow rules _ 0 0) λ r f. then-law (any-law _) λ _.
+      read-follows = then-law (any-law _) λ _. bind-law (value-related m m′ rowsLent rowsLent grammar grammar Follow rules _ 0 0) λ r f. then-law (any-law _) λ _.
           holds λ c. then-law (any-law _) λ _. bind-law (f .same λ i _ _ n. c i n) λ r′ e. then-law (any-law _) λ _. holds (ap (λ (p : Part). p .0) e)

@@ -8,6 +8,7 @@ use mathlib.Core.Logic.{_⊎_, inl, inr}
 use native.Mathlib.Omega.{arith}
 use lib.Dec.{leb, ltb}
 use borrow.Author.Tests.{ltb-true, ltb-false, leb-true, leb-false}
+use Rattle.format.specs.Grammars.{Grammar}
 use Rattle.format.specs.Outcome.{done}
 use Rattle.format.specs.Tokens.{Token, Forest}
 use Rattle.format.specs.Rows.{allWords}
@@ -43,10 +44,10 @@ alike-but-slots {s = s} {w = w} a c h l d = record {
   outside = λ i n. elim (apart-or-in i s w) [ inl x ↦ d .outside i x | inr x ↦ absurd (n (at-slots a c (omega arith) (omega arith))) ];
 }
 
-module _ (m m′ : List ℕ) (rowsLent : ℕ) (f f′ : Forest) (accepted : read m rowsLent ≡ done f) (accepted′ : read m′ rowsLent ≡ done f′) where
+module _ (m m′ : List ℕ) (rowsLent : ℕ) (grammar : Grammar) (f f′ : Forest) (accepted : read m rowsLent grammar ≡ done f) (accepted′ : read m′ rowsLent grammar ≡ done f′) where
   -- The tokens of an accepted message don't depend on the bytes in payloads that are cut into slots.
   pub slots-keep-tokens : AlikeButSlots m m′ f → f′ ≡ f
-  slots-keep-tokens d = of-done f′ (of-done f (read-follows m m′ (d .long) rowsLent) accepted (d .outside)) accepted′
+  slots-keep-tokens d = of-done f′ (of-done f (read-follows m m′ (d .long) rowsLent grammar) accepted (d .outside)) accepted′
 
   -- So a change of w bytes from s on, inside the payload of one packed array or table, keeps them.
   pub same-tokens : (s w row : ℕ) (t : Token) (below : Forest) → At 0 f row t below → IsCut (t .kind) → t .payload ≤ s → s + w ≤ t .payload + t .extent

@@ -1,2 +1,3 @@
 pub mod Demand3
 pub mod Room17
+pub mod Editions

@@ -8,6 +8,7 @@ use mathlib.Core.Logic.{inl, inr}
 use native.Mathlib.Omega.{arith}
 use lib.ListN.{set, length-set}
 use lib.Seq.{getD-set-other}
+use Rattle.format.specs.Grammars.{new}
 use Rattle.format.specs.Conditions as Conditions
 use Rattle.format.specs.Outcome as Outcome
 use Rattle.format.specs.Outcome.{Outcome, done}
@@ -70,12 +71,12 @@ abbrev answer : Bool → Outcome Scalar
 answer b = done (record { kind = leaf; value = boolean b })
 
 -- Room 17's mark reads as false, and then as true; and all that demand 3 says of such a change holds.
-pub room-17 : (valueAt ward (afterReading ward lent) room17 ≡ answer false) × (valueAt heard (afterReading heard lent) room17 ≡ answer true)
-    × Unchanged ward lent room17 heard lent
-unfolding Conditions.if_then_else_ Conditions.among Conditions.all Outcome._>>=_ Outcome._>>_ Outcome.guard Marks.opens Marks.closes Marks.integers Marks.isInteger Marks.signedIntegers Marks.isSigned Marks.types Marks.isScalar Marks.isPlainLeaf Marks.isLeaf Marks.isBoolean Marks.width Marks.leafWidth Text.isText Text.shaped Content.isContent Content.content Content.contents Content.payloadEnd Tokens.size Tokens._⊕_ Tokens.belowFirst Tokens.isKind Rows.layout Rows.word Rows.rowAt Rows.rowsIn Rows.rowOf Rows.rows Rows.wordsOf Rows.allRows Rows.allWords Rows.filled Records.memberWidth Records.totalWidth Records.atOffset Records.placed Indexes.product Indexes.inRange Indexes.countFrom Indexes.lastNumber Indexes.numberIn Storage.endToEnd Storage.leaves Storage.byRows Storage.records Bytes.little Bytes.leadingNoops Bytes.within Bytes.bytes Bytes.skip Bytes.reach Bytes.byte Bytes.oneOf Integers.isNegative Integers.number Integers.integer Sequences.rowLeft Sequences._⨾_ Sequences.until Scalars.key Dimensions.plain Dimensions.shape Schemas.leaf Schemas.group Schemas.plainLeaf Schemas.enclosed Schemas.schema Schemas.kindBy Schemas.groupBy Schemas.nested Schemas.tableSchema Containers.stored Containers.table Containers.typed Containers.containerBy Read.valueBy Read.nested Read.read Read.readInto Read.wordsAfter Addresses.isA Addresses.isTable Addresses.isKey Addresses.isLeafRow Addresses.isSchema Addresses.isMember Addresses.along Addresses.dimensions Addresses.seek Addresses.inside Addresses.tableSlot Values.valueOf Values.scalarAt Values.valueInTable Named.call Reads.valueAt
+pub room-17 : (valueAt ward (afterReading ward lent new) room17 ≡ answer false) × (valueAt heard (afterReading heard lent new) room17 ≡ answer true)
+    × Unchanged ward lent new room17 heard lent
+unfolding Conditions.if_then_else_ Conditions.among Conditions.all Outcome._>>=_ Outcome._>>_ Outcome.guard Marks.opens Marks.closes Marks.integers Marks.isInteger Marks.signedIntegers Marks.isSigned Marks.types Marks.isScalar Marks.isPlainLeaf Marks.isLeaf Marks.isBoolean Marks.width Marks.leafWidth Text.isText Text.shaped Content.isContent Content.content Content.contents Content.payloadEnd Tokens.size Tokens._⊕_ Tokens.belowFirst Tokens.isKind Rows.layout Rows.word Rows.rowAt Rows.rowsIn Rows.rowOf Rows.rows Rows.wordsOf Rows.allRows Rows.allWords Rows.filled Records.memberWidth Records.totalWidth Records.atOffset Records.placed Indexes.product Indexes.inRange Indexes.countFrom Indexes.lastNumber Indexes.numberIn Storage.endToEnd Storage.leaves Storage.byRows Storage.records Bytes.little Bytes.leadingNoops Bytes.within Bytes.bytes Bytes.skip Bytes.reach Bytes.byte Bytes.oneOf Integers.isNegative Integers.number Integers.integerTo Sequences.rowLeft Sequences._⨾_ Sequences.until Scalars.key Dimensions.plain Dimensions.shape Schemas.leaf Schemas.group Schemas.plainLeaf Schemas.enclosed Schemas.schema Schemas.kindBy Schemas.groupBy Schemas.nested Schemas.tableSchema Containers.stored Containers.table Containers.typed Containers.containerBy Read.valueBy Read.nested Read.read Read.readInto Read.wordsAfter Addresses.isA Addresses.isTable Addresses.isKey Addresses.isLeafRow Addresses.isSchema Addresses.isMember Addresses.along Addresses.dimensions Addresses.seek Addresses.inside Addresses.tableSlot Values.valueOf Values.scalarAt Values.valueInTable Named.call Reads.valueAt
 room-17 = (
   refl,
   refl,
-  demand3 ward lent _ refl .changes room17 (record { mark = 0x54; first = 24; wide = 1 }) refl heard lent
+  demand3 ward lent new _ refl .changes room17 (record { mark = 0x54; first = 24; wide = 1 }) refl heard lent
       (record { alike = alike; as-many-lent = refl; tokens = _; accepted = refl }),
 )

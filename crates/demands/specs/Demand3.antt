@@ -13,13 +13,14 @@
 -- same to the last number. What was found is found in the same place, and what was refused is refused alike. And everything but room 17's
 -- mark, in this table and in every other list and table of the message, reads as before: the same bytes, the same value, the same text.
 --
--- Formally. `m` is any message and `lent` any words; it was read into them and accepted, and `f` has its tokens. `afterReading m lent` are
--- the words after that. `proofs/Demand3` proves it of all of them.
+-- Formally. `m` is any message, `lent` any words, and `grammar` any edition's; the message was read into `lent` by
+-- `grammar` and accepted, and `f` has its tokens. `afterReading m lent grammar` are the words after that. `proofs/Demand3` proves it of all of them.
 use Prim.Native.Nat.{ℕ, suc, _+_, _≤_, _<_}
 use mathlib.Core.Path.{_≡_}
 use mathlib.Core.List.{List, List·Memᴰ}
 use mathlib.Core.Logic.{_↔_}
 use lib.ListN.{length}
+use Rattle.format.specs.Grammars.{Grammar}
 use Rattle.format.specs.Outcome.{done}
 use Rattle.format.specs.Marks.{'[', left-brace}
 use Rattle.format.specs.Tokens.{Token, packed, table, Forest, node, size}
@@ -74,38 +75,38 @@ pub record Payload (m ws : List ℕ) (f : Forest) (row : ℕ) (t : Token) (below
 -- ---- two messages
 
 -- any other message that is like the first but for one slot
-pub record Other (m lent : List ℕ) (slot : Region) (m′ lent′ : List ℕ) : Type 0 where
+pub record Other (m lent : List ℕ) (grammar : Grammar) (slot : Region) (m′ lent′ : List ℕ) : Type 0 where
   -- it is of the same length and differs only inside the slot
   pub alike : Alike m m′ (slot .first) (slot .wide)
   -- as many words are lent for it, whatever they held
   pub as-many-lent : length lent′ ≡ length lent
   -- and it is accepted too, with tokens of its own
   pub tokens : Forest
-  pub accepted : readInto m′ lent′ ≡ done tokens
+  pub accepted : readInto m′ lent′ grammar ≡ done tokens
 
 -- what is the same in both, where the slot is that of the address `a`
-pub record Unchanged (m lent : List ℕ) (a : Address) (m′ lent′ : List ℕ) : Type 0 where
+pub record Unchanged (m lent : List ℕ) (grammar : Grammar) (a : Address) (m′ lent′ : List ℕ) : Type 0 where
   -- as many rows are used
-  pub used-same : rowsUsed (readInto m′ lent′) ≡ rowsUsed (readInto m lent)
+  pub used-same : rowsUsed (readInto m′ lent′ grammar) ≡ rowsUsed (readInto m lent grammar)
   -- the rows are equal word for word, and so are all lent words
-  pub words-same : afterReading m′ lent′ ≡ afterReading m lent
+  pub words-same : afterReading m′ lent′ grammar ≡ afterReading m lent grammar
   -- every address call names the same slot or gives the same refusal
-  pub slots-same : (b : Address) → call (afterReading m′ lent′) (length m′) b ≡ call (afterReading m lent) (length m) b
+  pub slots-same : (b : Address) → call (afterReading m′ lent′ grammar) (length m′) b ≡ call (afterReading m lent grammar) (length m) b
   -- and every address but the changed one, in any array or table of the message, reads the same bytes, value and text
-  pub others-same : (b : Address) → (b ≡ a → ⊥) → reads m′ (afterReading m′ lent′) b ≡ reads m (afterReading m lent) b
+  pub others-same : (b : Address) → (b ≡ a → ⊥) → reads m′ (afterReading m′ lent′ grammar) b ≡ reads m (afterReading m lent grammar) b
 
 -- ---- the demand
 
 -- of a message that was read into lent words and accepted, with these tokens
-pub record Demand3 (m lent : List ℕ) (f : Forest) : Type 0 where
+pub record Demand3 (m lent : List ℕ) (grammar : Grammar) (f : Forest) : Type 0 where
   -- the rows are those of demand 2: at each token's row stand its words
-  pub rows : (row : ℕ) (t : Token) (below : Forest) → At 0 f row t below → rowAt (afterReading m lent) row ≡ rowOf t (suc row + size below)
+  pub rows : (row : ℕ) (t : Token) (below : Forest) → At 0 f row t below → rowAt (afterReading m lent grammar) row ≡ rowOf t (suc row + size below)
   -- an address is answered exactly when in range
-  pub answered-in-range : (a : Address) → InRange f a ↔ ((slot : Region) × (call (afterReading m lent) (length m) a ≡ done slot))
+  pub answered-in-range : (a : Address) → InRange f a ↔ ((slot : Region) × (call (afterReading m lent grammar) (length m) a ≡ done slot))
   -- with the slot that cutting the payload in storage order gives; else it is refused, by 12 for its rows, then by 10 for its indexes
-  pub verdicts : (a : Address) → Verdict f a (call (afterReading m lent) (length m) a)
+  pub verdicts : (a : Address) → Verdict f a (call (afterReading m lent grammar) (length m) a)
   -- every packed array's and every table's slots tile its payload
-  pub payloads : (row : ℕ) (t : Token) (below : Forest) → At 0 f row t below → IsCut (t .kind) → Payload m (afterReading m lent) f row t below
+  pub payloads : (row : ℕ) (t : Token) (below : Forest) → At 0 f row t below → IsCut (t .kind) → Payload m (afterReading m lent grammar) f row t below
   -- a change inside one slot changes nothing else
-  pub changes : (a : Address) (slot : Region) → call (afterReading m lent) (length m) a ≡ done slot
-      → (m′ lent′ : List ℕ) → Other m lent slot m′ lent′ → Unchanged m lent a m′ lent′
+  pub changes : (a : Address) (slot : Region) → call (afterReading m lent grammar) (length m) a ≡ done slot
+      → (m′ lent′ : List ℕ) → Other m lent grammar slot m′ lent′ → Unchanged m lent grammar a m′ lent′

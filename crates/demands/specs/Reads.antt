@@ -2,6 +2,7 @@
 use Prim.Native.Nat.{ℕ}
 use mathlib.Core.List.{List}
 use lib.ListN.{length}
+use Rattle.format.specs.Grammars.{Grammar}
 use Rattle.format.specs.Outcome.{Outcome, fault}
 use Rattle.format.specs.Refusals.{rowsDontFit}
 use Rattle.format.specs.Addresses.{Region}
@@ -11,8 +12,8 @@ use Rattle.format.specs.Read.{readInto, wordsAfter}
 use Rattle.storage.specs.Addresses.{Address, inPacked, inTable, call}
 
 -- the lent words after reading a message into them, as the reader's contract has them
-abbrev pub afterReading : List ℕ → List ℕ → List ℕ
-afterReading m lent = wordsAfter (length lent) (readInto m lent)
+abbrev pub afterReading : List ℕ → List ℕ → Grammar → List ℕ
+afterReading m lent grammar = wordsAfter (length lent) (readInto m lent grammar)
 
 module _ (m ws : List ℕ) where
   -- what the value calls answer

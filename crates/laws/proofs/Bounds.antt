@@ -5,9 +5,10 @@ use mathlib.Core.Path.{_≡_, refl}
 use mathlib.Core.Bool.{Bool, true, false}
 use mathlib.Core.List.{List, [], _∷_}
 use native.Mathlib.Omega.{arith}
-use lib.ListN.{length}
+use lib.ListN.{length, getD}
 use lib.Dec.{ltb}
 use borrow.Author.Tests.{ltb-true, ltb-false, leb-true, le-ltb}
+use Rattle.format.specs.Grammars.{Grammar}
 use Rattle.format.specs.Outcome.{Outcome, fault, Parsed, _>>=_, _>>_, guard}
 use Rattle.format.specs.Limits.{limit}
 use Rattle.format.specs.Refusals.{endsTooEarly, noRowLeft}
@@ -17,16 +18,17 @@ use Rattle.format.specs.Records.{placed}
 use Rattle.format.specs.Storage.{Slot}
 use Rattle.format.specs.Bytes.{reach, byte, oneOf, skip}
 use Rattle.format.specs.Content.{content, contents, payloadEnd}
-use Rattle.format.specs.Integers.{number, integer}
+use Rattle.format.specs.Integers.{number, integerTo, integer}
 use Rattle.format.specs.Sequences.{Reader, rowLeft, _⨾_, repeat, until, spaced}
 use Rattle.format.specs.Scalars as Scalars
 use Rattle.format.specs.Dimensions as Dimensions
 use Rattle.format.specs.Schemas as Schemas
 use Rattle.format.specs.Containers as Containers
+use Rattle.format.specs.Extensions as Extensions
 use Rattle.format.specs.Read as Read
 use Rattle.format.proofs.MarkFacts.{type-wide, integer-wide}
 use Rattle.format.proofs.Forests.{size-append}
-use Rattle.laws.proofs.Holds.{Holds, refused, holds, bind-law, then-law, if-law, seq-law, other, guard-law, weaken, relax, both}
+use Rattle.laws.proofs.Holds.{Holds, refused, holds, bind-law, then-law, if-law, seq-law, other, guard-law, any-law, weaken, relax, both}
 use Rattle.laws.proofs.Schemas.{groupKind, group-one, tableSchema-gives}
 use Rattle.laws.proofs.Skips.{skip-on, skip-inside}
 use Rattle.laws.proofs.Order.{isCut, isOffset, Room, whole, offset, InOrder, nothing, token, order-size, order-widen, order-append, group-kind, order-placed, size-placed}
@@ -50,6 +52,10 @@ byte-over m at h = rw (le-ltb at (length m) h)
 pub byte-starts : (m : List ℕ) {A : Type 0} (at : ℕ) (f : ℕ → Outcome A) → length m ≤ at → (byte m at >>= f) ≡ fault endsTooEarly (length m)
 unfolding _>>=_
 byte-starts m at f h = rw (byte-over m at h)
+
+pub byte-is : (m : List ℕ) (at : ℕ) → Holds (Unit {0}) (λ b. b ≡ getD m at 0) (byte m at)
+unfolding byte
+byte-is m at = then-law (any-law _) λ _. holds refl
 
 module _ (m : List ℕ) {S : Type 0} where
   pub byte-law : (at : ℕ) → Holds S (λ _. at < length m) (byte m at)
@@ -83,9 +89,12 @@ module _ (m : List ℕ) {S : Type 0} where
   number-law highest mark place start = then-law (reach-law _) λ h. then-law (guard-law _ _ _ refl) λ _. then-law (guard-law _ _ _ refl) λ k.
       holds (leb-true _ highest k, (refl, h))
 
+  pub integerTo-law : (highest at : ℕ) → Holds S (λ r. (r .0 ≤ highest) × ((at < r .1) × (r .1 ≤ length m))) (integerTo m highest at)
+  unfolding integerTo
+  integerTo-law highest at = bind-law (oneOf-law _ _) λ mark h. weaken (λ r s. (s .0, (omega arith, s .1 .1))) (number-law _ _ _ _)
+
   pub integer-law : (at : ℕ) → Holds S (λ r. (r .0 ≤ limit) × ((at < r .1) × (r .1 ≤ length m))) (integer m at)
-  unfolding integer
-  integer-law at = bind-law (oneOf-law _ _) λ mark h. weaken (λ r s. (s .0, (omega arith, s .1 .1))) (number-law _ _ _ _)
+  integer-law = integerTo-law limit
 
 -- ---- readers
 
@@ -182,6 +191,12 @@ module _ (m : List ℕ) (rowsLent : ℕ) where
   unfolding Scalars.key isCut isKind
   key-bounded at row _ _ = bind-law (oneOf-law _ _ _) λ mark h. then-law (rowLeft-law at row (h .0)) λ l.
       bind-law (number-law _ _ _ _ _) λ n k. bind-law (payloadEnd-law _ _ _ _) λ next s.
+      holds (lone _ next row refl (omega arith) (omega arith) (omega arith) (s .1) l)
+
+  pub extension-bounded : Bounded 1 0 1 (Extensions.extension m rowsLent)
+  unfolding Extensions.extension isCut isKind
+  extension-bounded at row h _ = then-law (rowLeft-law at row (omega arith)) λ l. bind-law (integerTo-law _ _ _) λ id i. bind-law (integer-law _ _) λ n k.
+      then-law (guard-law _ _ _ refl) λ _. bind-law (payloadEnd-law _ _ _ _) λ next s.
       holds (lone _ next row refl (omega arith) (omega arith) (omega arith) (s .1) l)
 
   -- ---- dimensions
@@ -356,27 +371,29 @@ module _ (m : List ℕ) (rowsLent : ℕ) where
       if-law _ (λ _. counted-items-bounded o _ (at + 2) at row (eased (spaced-bounded _ (items-bounded o value b))) (omega arith) l) λ _.
       plain-bounded o _ (eased (items-bounded o value b)) at row h (omega arith)
 
-  pub valueBy-bounded : (nested : Opening → Reader) → ((o : Opening) → Bounded 1 0 1 (nested o)) → Bounded 0 0 1 (Read.valueBy m rowsLent nested)
-  unfolding Read.valueBy isCut isKind
-  valueBy-bounded nested b at row _ l = bind-law (byte-law _ _) λ mark h.
-      if-law _ (λ _. scalar-bounded mark (at + 1) at row h (omega arith) (omega arith)) λ _.
-      if-law _ (λ _. text-bounded _ _ refl at row (omega arith) l) λ _.
-      if-law _ (λ _. text-bounded _ _ refl at row (omega arith) l) λ _.
-      if-law _ (λ _. b bracket at row (omega arith) l) λ _.
-      if-law _ (λ _. b brace at row (omega arith) l) λ _. other refl
+  module _ (grammar : Grammar) where
+    pub valueBy-bounded : (nested : Opening → Reader) → ((o : Opening) → Bounded 1 0 1 (nested o)) → Bounded 0 0 1 (Read.valueBy m rowsLent grammar nested)
+    unfolding Read.valueBy isCut isKind
+    valueBy-bounded nested b at row _ l = bind-law (byte-law _ _) λ mark h.
+        if-law _ (λ _. scalar-bounded mark (at + 1) at row h (omega arith) (omega arith)) λ _.
+        if-law _ (λ _. text-bounded _ _ refl at row (omega arith) l) λ _.
+        if-law _ (λ _. text-bounded _ _ refl at row (omega arith) l) λ _.
+        if-law _ (λ _. b bracket at row (omega arith) l) λ _.
+        if-law _ (λ _. b brace at row (omega arith) l) λ _.
+        if-law _ (λ _. extension-bounded at row (omega arith) l) λ _. other refl
 
-  pub nested-bounded : (levels : ℕ) (o : Opening) → Bounded 1 0 1 (Read.nested m rowsLent levels o)
-  unfolding Read.nested
-  nested-bounded zero o at row _ _ = other refl
-  nested-bounded (suc levels) o at row h l = containerBy-bounded _ (valueBy-bounded _ (nested-bounded levels)) o at row h l
+    pub nested-bounded : (levels : ℕ) (o : Opening) → Bounded 1 0 1 (Read.nested m rowsLent grammar levels o)
+    unfolding Read.nested
+    nested-bounded zero o at row _ _ = other refl
+    nested-bounded (suc levels) o at row h l = containerBy-bounded _ (valueBy-bounded _ (nested-bounded levels)) o at row h l
 
-  -- a value, with so many levels of nesting left
-  pub value-bounded : (levels : ℕ) → Bounded 0 0 1 (Read.valueBy m rowsLent (Read.nested m rowsLent levels))
-  value-bounded levels = valueBy-bounded _ (nested-bounded levels)
+    -- a value, with so many levels of nesting left
+    pub value-bounded : (levels : ℕ) → Bounded 0 0 1 (Read.valueBy m rowsLent grammar (Read.nested m rowsLent grammar levels))
+    value-bounded levels = valueBy-bounded _ (nested-bounded levels)
 
-  -- a message
-  pub read-bounded : Holds (rowsLent < length m) (λ f. (size f ≤ rowsLent) × InOrder 0 (length m) f) (Read.read m rowsLent)
-  unfolding Read.read
-  read-bounded = then-law (guard-law _ _ _ refl) λ _.
-      bind-law (relax (λ z. omega arith) (value-bounded _ (skip m 0) 0 (omega (arith, skip-inside m 0 (omega arith))) (omega arith))) λ r s.
-      then-law (guard-law _ _ _ refl) λ _. holds (let e = s .lent in omega arith, order-widen 0 (length m) (omega arith) (s .inside) (s .order))
+    -- a message
+    pub read-bounded : Holds (rowsLent < length m) (λ f. (size f ≤ rowsLent) × InOrder 0 (length m) f) (Read.read m rowsLent grammar)
+    unfolding Read.read
+    read-bounded = then-law (guard-law _ _ _ refl) λ _.
+        bind-law (relax (λ z. omega arith) (value-bounded _ (skip m 0) 0 (omega (arith, skip-inside m 0 (omega arith))) (omega arith))) λ r s.
+        then-law (guard-law _ _ _ refl) λ _. holds (let e = s .lent in omega arith, order-widen 0 (length m) (omega arith) (s .inside) (s .order))

@@ -7,6 +7,7 @@ use native.Mathlib.Omega.{arith}
 use native.Mathlib.Nat.{mul-le-mul-left}
 use lib.ListN.{length}
 use borrow.Author.Tests.{ltb-true, leb-true}
+use Rattle.format.specs.Grammars.{Grammar}
 use Rattle.format.specs.Conditions.{if_then_else_}
 use Rattle.format.specs.Outcome.{Outcome, fault, done, _>>=_, _>>_, guard}
 use Rattle.format.specs.Limits.{limit}
@@ -17,12 +18,13 @@ use Rattle.format.specs.Indexes.{below}
 use Rattle.format.specs.Storage.{Slot, memberRow}
 use Rattle.format.specs.Bytes.{reach, byte, oneOf, skip}
 use Rattle.format.specs.Content.{content, contents, payloadEnd}
-use Rattle.format.specs.Integers.{number, integer}
+use Rattle.format.specs.Integers.{number, integerTo}
 use Rattle.format.specs.Sequences.{Reader, rowLeft, _⨾_, repeat, until, spaced}
 use Rattle.format.specs.Scalars as Scalars
 use Rattle.format.specs.Dimensions as Dimensions
 use Rattle.format.specs.Schemas as Schemas
 use Rattle.format.specs.Containers as Containers
+use Rattle.format.specs.Extensions as Extensions
 use Rattle.format.specs.Read as Read
 use Rattle.laws.proofs.Holds.{Holds, refused as refusedShort, holds}
 use Rattle.laws.proofs.Schemas.{groupKind, group-one, tableSchema-gives}
@@ -105,9 +107,9 @@ module _ (m : List ℕ) where
   number-stays highest mark place start h = then-stays (reach-stays _) λ k.
       then-stays (guard-stays _ _ _ (omega arith) h) λ _. then-stays (guard-stays _ _ _ (omega arith) h) λ _. stays k
 
-  integer-stays : (at : ℕ) → Stays (length m) (λ r. r .1 ≤ length m) (integer m at)
-  unfolding integer
-  integer-stays at = bind-stays (mark-stays _ _) λ mark h. number-stays _ _ _ _ (omega arith)
+  integer-stays : (highest at : ℕ) → Stays (length m) (λ r. r .1 ≤ length m) (integerTo m highest at)
+  unfolding integerTo
+  integer-stays highest at = bind-stays (mark-stays _ _) λ mark h. number-stays _ _ _ _ (omega arith)
 
   -- ---- readers
 
@@ -153,13 +155,18 @@ module _ (m : List ℕ) where
 
     text-remains : (kind : Kind) (mark : ℕ) → Remains (Scalars.text m rowsLent kind mark)
     unfolding Scalars.text
-    text-remains kind mark at row h = then-stays (row-stays at row h) λ _. bind-stays (integer-stays _) λ _ _.
+    text-remains kind mark at row h = then-stays (row-stays at row h) λ _. bind-stays (integer-stays _ _) λ _ _.
         bind-stays (payloadEnd-stays _ _ _) λ _ k. stays k
 
     key-remains : Remains (Scalars.key m rowsLent)
     unfolding Scalars.key
     key-remains at row h = bind-stays (mark-stays _ _) λ _ _. then-stays (row-stays at row h) λ _. bind-stays (number-stays _ _ _ _ h) λ _ _.
         bind-stays (payloadEnd-stays _ _ _) λ _ k. stays k
+
+    extension-remains : (at row : ℕ) → at < length m → Stays (length m) (λ r. r .1 ≤ length m) (Extensions.extension m rowsLent at row)
+    unfolding Extensions.extension
+    extension-remains at row h = then-stays (row-stays at row (omega arith)) λ _. bind-stays (integer-stays _ _) λ _ _. bind-stays (integer-stays _ _) λ _ _.
+        then-stays (guard-stays _ _ _ (omega arith) (omega arith)) λ _. bind-stays (payloadEnd-stays _ _ _) λ _ k. stays k
 
     -- ---- dimensions
 
@@ -184,7 +191,7 @@ module _ (m : List ℕ) where
 
       counted-remains : (item : Reader) → Remains item → Remains (Dimensions.counted m rowsLent place item)
       unfolding Dimensions.counted
-      counted-remains item a at row h = bind-stays (integer-stays _) λ n k. then-stays (guard-stays _ _ _ (omega arith) inside) λ _. repeat-remains _ item a _ _ k
+      counted-remains item a at row h = bind-stays (integer-stays _ _) λ n k. then-stays (guard-stays _ _ _ (omega arith) inside) λ _. repeat-remains _ item a _ _ k
 
       vector-remains : Remains (Dimensions.vector m rowsLent place)
       unfolding Dimensions.vector Dimensions.countedBare
@@ -195,7 +202,7 @@ module _ (m : List ℕ) where
 
     shape-stays : (mayWrap : Bool) (at row : ℕ) → Stays (length m) (λ r. r .1 ≤ length m) (Dimensions.shape m rowsLent mayWrap at row)
     unfolding Dimensions.shape Dimensions.plain Dimensions.slowest Dimensions.fastest
-    shape-stays mayWrap at row = bind-stays (byte-stays at) λ _ h. if-stays _ (bind-stays (integer-stays at) λ _ k. stays k)
+    shape-stays mayWrap at row = bind-stays (byte-stays at) λ _ h. if-stays _ (bind-stays (integer-stays _ at) λ _ k. stays k)
         (bind-stays (byte-stays (at + 1)) λ _ k. if-stays _
         (bind-stays (vector-remains at (omega arith) (at + 2) row (omega arith)) λ d _. bind-stays (mark-stays _ (d .1)) λ _ e. stays (omega arith))
         (bind-stays (vector-remains at (omega arith) (at + 1) row (omega arith)) λ _ e. stays e))
@@ -213,7 +220,7 @@ module _ (m : List ℕ) where
     unfolding Schemas.kindBy Schemas.plainLeaf Schemas.textLeaf
     kindBy-remains nested a at row h = bind-stays (byte-stays at) λ _ k.
         if-stays _ (then-stays (row-stays at row h) λ _. stays (omega arith))
-        (if-stays _ (then-stays (row-stays at row h) λ _. bind-stays (integer-stays _) λ _ j. stays j)
+        (if-stays _ (then-stays (row-stays at row h) λ _. bind-stays (integer-stays _ _) λ _ j. stays j)
         (if-stays _ (refuse (omega arith) h)
         (if-stays _ (a bracket at row k)
         (if-stays _ (a brace at row k) (refuse (omega arith) h)))))
@@ -248,7 +255,7 @@ module _ (m : List ℕ) where
     counted-items-remain : (o : Opening) (item : Reader) (from at row : ℕ) → Remains item
         → Stays (length m) (λ r. r .1 ≤ length m) (Containers.counted m rowsLent o item from at row)
     unfolding Containers.counted
-    counted-items-remain o item from at row a = bind-stays (integer-stays _) λ n h. bind-stays (repeat-remains (n .0) item a _ _ h) λ _ k. stays k
+    counted-items-remain o item from at row a = bind-stays (integer-stays _ _) λ n h. bind-stays (repeat-remains (n .0) item a _ _ h) λ _ k. stays k
 
     plain-remains : (o : Opening) (item : Reader) (at row : ℕ) → Remains item → Stays (length m) (λ r. r .1 ≤ length m) (Containers.plain m rowsLent o item at row)
     unfolding Containers.plain
@@ -277,30 +284,32 @@ module _ (m : List ℕ) where
 
     -- ---- values
 
-    valueBy-remains : (nested : Opening → Reader) → ((o : Opening) → Remains (nested o)) → Remains (Read.valueBy m rowsLent nested)
-    unfolding Read.valueBy
-    valueBy-remains nested a at row h = bind-stays (byte-stays at) λ mark _. if-stays _ (scalar-remains mark (at + 1) at row h)
-        (if-stays _ (text-remains _ _ at row h)
-        (if-stays _ (text-remains _ _ at row h)
-        (if-stays _ (a bracket at row h)
-        (if-stays _ (a brace at row h) (refuse (omega arith) h)))))
+    module _ (grammar : Grammar) where
+      valueBy-remains : (nested : Opening → Reader) → ((o : Opening) → Remains (nested o)) → Remains (Read.valueBy m rowsLent grammar nested)
+      unfolding Read.valueBy
+      valueBy-remains nested a at row h = bind-stays (byte-stays at) λ mark k. if-stays _ (scalar-remains mark (at + 1) at row h)
+          (if-stays _ (text-remains _ _ at row h)
+          (if-stays _ (text-remains _ _ at row h)
+          (if-stays _ (a bracket at row h)
+          (if-stays _ (a brace at row h)
+          (if-stays _ (extension-remains at row k) (refuse (omega arith) h))))))
 
-    nested-remains : (levels : ℕ) (o : Opening) → Remains (Read.nested m rowsLent levels o)
-    unfolding Read.nested
-    nested-remains zero o at row h = refuse (omega arith) h
-    nested-remains (suc levels) o at row h = containerBy-remains _ (valueBy-remains _ (nested-remains levels)) o at row h
+      nested-remains : (levels : ℕ) (o : Opening) → Remains (Read.nested m rowsLent grammar levels o)
+      unfolding Read.nested
+      nested-remains zero o at row h = refuse (omega arith) h
+      nested-remains (suc levels) o at row h = containerBy-remains _ (valueBy-remains _ (nested-remains levels)) o at row h
 
-    read-stays : Stays limit (λ _. Unit {0}) (Read.read m rowsLent)
-    unfolding Read.read
-    read-stays = then-stays (guard-stays _ _ _ (omega arith) (omega arith)) λ short.
-        let l = leb-true (length m) limit short in
-        later limit l (bind-stays (valueBy-remains _ (nested-remains _) (skip m 0) 0 (skip-inside m 0 (omega arith))) λ r h.
-        then-stays (guard-stays _ _ _ (omega arith) (skip-inside m (r .1) h)) λ _. stays tt)
+      read-stays : Stays limit (λ _. Unit {0}) (Read.read m rowsLent grammar)
+      unfolding Read.read
+      read-stays = then-stays (guard-stays _ _ _ (omega arith) (omega arith)) λ short.
+          let l = leb-true (length m) limit short in
+          later limit l (bind-stays (valueBy-remains _ (nested-remains _) (skip m 0) 0 (skip-inside m 0 (omega arith))) λ r h.
+          then-stays (guard-stays _ _ _ (omega arith) (skip-inside m (r .1) h)) λ _. stays tt)
 
-    -- A refusal has one of 01's numbers, and a place within the limit.
-    pub fault-within : (n p : ℕ) → Read.read m rowsLent ≡ fault n p → (n ≤ notBuilt) × (p ≤ limit)
-    fault-within n p e = of-fault read-stays e
-      where
-        of-fault : {P : Forest → Type 0} {o : Outcome Forest} → Stays limit P o → o ≡ fault n p → (n ≤ notBuilt) × (p ≤ limit)
-        of-fault (refused {n = n′} {p = p′} h k) e = let a : n′ ≡ n = cc in let b : p′ ≡ p = cc in (omega arith, omega arith)
-        of-fault (stays h) e = let z : _≡_ {A = ℕ} 0 1 = cc in absurd (omega arith)
+      -- A refusal has one of 01's numbers, and a place within the limit.
+      pub fault-within : (n p : ℕ) → Read.read m rowsLent grammar ≡ fault n p → (n ≤ notBuilt) × (p ≤ limit)
+      fault-within n p e = of-fault read-stays e
+        where
+          of-fault : {P : Forest → Type 0} {o : Outcome Forest} → Stays limit P o → o ≡ fault n p → (n ≤ notBuilt) × (p ≤ limit)
+          of-fault (refused {n = n′} {p = p′} h k) e = let a : n′ ≡ n = cc in let b : p′ ≡ p = cc in (omega arith, omega arith)
+          of-fault (stays h) e = let z : _≡_ {A = ℕ} 0 1 = cc in absurd (omega arith)

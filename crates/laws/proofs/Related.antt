@@ -1,27 +1,30 @@
 -- Two messages read side by side: a relation of two answers that keeps to the rules holds of what every reader answers. Assumes nothing.
 use Prim.Native.Nat.{ℕ, zero, suc, _+_, _≤_, _<_}
-use mathlib.Core.Path.{_≡_, refl}
+use mathlib.Core.Path.{_≡_, refl, sym, _∙_}
 use mathlib.Core.Bool.{Bool, true, false}
 use mathlib.Core.List.{List}
 use native.Mathlib.Omega.{arith}
 use native.Mathlib.Nat.{mul-le-mul-left}
 use lib.ListN.{length}
 use lib.Dec.{eqb}
+use borrow.Author.Tests.{eqb-true}
+use Rattle.format.specs.Grammars.{Grammar}
 use Rattle.format.specs.Conditions.{if_then_else_}
 use Rattle.format.specs.Outcome.{Outcome, fault, done, Parsed, _>>=_}
 use Rattle.format.specs.Refusals.{endsTooEarly}
-use Rattle.format.specs.Marks.{Opening, bracket, brace, isInteger, width}
+use Rattle.format.specs.Marks.{Opening, bracket, brace, isInteger, width, 'E'}
 use Rattle.format.specs.Tokens.{Token, Kind, isKind, Forest, none, node, alone}
 use Rattle.format.specs.Records.{placed}
 use Rattle.format.specs.Indexes.{below}
 use Rattle.format.specs.Storage.{memberRow}
 use Rattle.format.specs.Bytes.{skip, byte, oneOf}
-use Rattle.format.specs.Integers.{number, integer}
+use Rattle.format.specs.Integers.{number, integerTo}
 use Rattle.format.specs.Sequences.{Reader, _⨾_, repeat, until, spaced}
 use Rattle.format.specs.Scalars as Scalars
 use Rattle.format.specs.Dimensions as Dimensions
 use Rattle.format.specs.Schemas as Schemas
 use Rattle.format.specs.Containers as Containers
+use Rattle.format.specs.Extensions as Extensions
 use Rattle.format.specs.Read as Read
 use Rattle.format.proofs.MarkFacts.{type-wide, integer-wide}
 use Rattle.laws.specs.Places.{InSlots, inOwn, inUnder, inLater}
@@ -50,7 +53,7 @@ stored-passes kind mark at start extent n f u = record { on = omega arith; cut =
     go i (inUnder c) = absurd (u i c)
     go i (inLater c) = absurd (none-slotless i c)
 
-module _ (m m′ : List ℕ) (r r′ : ℕ) (R : Relation) (rules : Rules m m′ r r′ R) where
+module _ (m m′ : List ℕ) (r r′ : ℕ) (g g′ : Grammar) (R : Relation) (rules : Rules m m′ r r′ g g′ R) where
   -- what two readers answer from any place on: having passed a byte, or maybe none
   abbrev Begins : Reader → Reader → Type 0
   Begins one one′ = (at row : ℕ) → R Part whole at (at + 1) (one at row) (one′ at row)
@@ -82,11 +85,11 @@ module _ (m m′ : List ℕ) (r r′ : ℕ) (R : Relation) (rules : Rules m m′
 
   first-byte : {A : Type 0} {part : A → Part} {k k′ : ℕ → Outcome A} (at : ℕ) → ((b : ℕ) → R A part at (at + 1) (k b) (k′ b))
       → R A part at (at + 1) (byte m at >>= k) (byte m′ at >>= k′)
-  first-byte at = rules .look at (at + 1) at (omega arith) (omega arith)
+  first-byte at h = rules .look at (at + 1) at (omega arith) (omega arith) λ b _. h b
 
   second-byte : {A : Type 0} {part : A → Part} {k k′ : ℕ → Outcome A} (at : ℕ) → ((b : ℕ) → R A part at (at + 1 + 1) (k b) (k′ b))
       → R A part at (at + 1) (byte m (at + 1) >>= k) (byte m′ (at + 1) >>= k′)
-  second-byte at h = rules .lower (omega arith) (omega arith) (rules .look at (at + 1 + 1) (at + 1) (omega arith) (omega arith) h)
+  second-byte at h = rules .lower (omega arith) (omega arith) (rules .look at (at + 1 + 1) (at + 1) (omega arith) (omega arith) λ b _. h b)
 
   mark-related : (allowed : ℕ → Bool) (at : ℕ) → R ℕ (header (λ _. at + 1)) at (at + 1) (oneOf m allowed at) (oneOf m′ allowed at)
   unfolding oneOf
@@ -102,13 +105,13 @@ module _ (m m′ : List ℕ) (r r′ : ℕ) (R : Relation) (rules : Rules m m′
       → R A part start (start + width mark) (number m highest mark place start >>= k) (number m′ highest mark place start >>= k′)
   number-then highest mark place start h = rules .rest (λ n. n .1) start (start + width mark) (omega arith) (any-law _) (rules .count highest mark place start) λ n _. h n
 
-  integer-related : (at : ℕ) → R (ℕ × ℕ) (header (λ (n : ℕ × ℕ). n .1)) at (at + 1) (integer m at) (integer m′ at)
-  unfolding integer
-  integer-related at = mark-then isInteger at λ mark _. rules .lower (omega arith) (omega arith) (rules .count _ mark at (at + 1))
+  integer-related : (highest at : ℕ) → R (ℕ × ℕ) (header (λ (n : ℕ × ℕ). n .1)) at (at + 1) (integerTo m highest at) (integerTo m′ highest at)
+  unfolding integerTo
+  integer-related highest at = mark-then isInteger at λ mark _. rules .lower (omega arith) (omega arith) (rules .count _ mark at (at + 1))
 
-  integer-then : {A : Type 0} {part : A → Part} {k k′ : ℕ × ℕ → Outcome A} (at : ℕ) → ((n : ℕ × ℕ) → R A part (n .1) (n .1) (k n) (k′ n))
-      → R A part at (at + 1) (integer m at >>= k) (integer m′ at >>= k′)
-  integer-then at h = rules .rest (λ n. n .1) at (at + 1) (omega arith) (any-law _) (integer-related at) λ n _. h n
+  integer-then : {A : Type 0} {part : A → Part} {k k′ : ℕ × ℕ → Outcome A} (highest at : ℕ) → ((n : ℕ × ℕ) → R A part (n .1) (n .1) (k n) (k′ n))
+      → R A part at (at + 1) (integerTo m highest at >>= k) (integerTo m′ highest at >>= k′)
+  integer-then highest at h = rules .rest (λ n. n .1) at (at + 1) (omega arith) (any-law _) (integer-related highest at) λ n _. h n
 
   -- ---- scalars, texts and keys
 
@@ -124,13 +127,19 @@ module _ (m m′ : List ℕ) (r r′ : ℕ) (R : Relation) (rules : Rules m m′
 
   text-begins : (kind : Kind) (mark : ℕ) → isCut kind ≡ false → Begins (Scalars.text m r kind mark) (Scalars.text m′ r′ kind mark)
   unfolding Scalars.text
-  text-begins kind mark c at row = rules .row-left at row (rules .lower (omega arith) (omega arith) (integer-then (at + 1) λ n.
+  text-begins kind mark c at row = rules .row-left at row (rules .lower (omega arith) (omega arith) (integer-then _ (at + 1) λ n.
       rules .payload mark (n .1) (n .0) λ next e. rules .finish _ (lone-passes _ next _ c (omega arith))))
 
   key-begins : Begins (Scalars.key m r) (Scalars.key m′ r′)
   unfolding Scalars.key isCut isKind
   key-begins at row = mark-then isInteger at λ mark _. rules .row-left at row (rules .lower (omega arith) (omega arith)
       (number-then _ mark at (at + 1) λ n. rules .payload _ (n .1) (n .0) λ next e. rules .finish _ (lone-passes _ next _ refl (omega arith))))
+
+  extension-begins : Begins (Extensions.extension m r) (Extensions.extension m′ r′)
+  unfolding Extensions.extension isCut isKind
+  extension-begins at row = rules .row-left at row (rules .lower (omega arith) (omega arith) (integer-then _ (at + 1) λ id.
+      rules .lower (omega arith) (omega arith) (integer-then _ (id .1) λ n. rules .test _ _ _ λ _. rules .payload _ (n .1) (n .0) λ next e.
+      rules .finish _ (lone-passes _ next _ refl (omega arith)))))
 
   -- ---- dimensions
 
@@ -157,7 +166,7 @@ module _ (m m′ : List ℕ) (r r′ : ℕ) (R : Relation) (rules : Rules m m′
 
   counted-begins : (place : ℕ) {item item′ : Reader} → Goes item item′ → Begins (Dimensions.counted m r place item) (Dimensions.counted m′ r′ place item′)
   unfolding Dimensions.counted
-  counted-begins place a at row = integer-then at λ n. rules .test _ _ _ λ _. repeat-goes (n .0) a (n .1) row
+  counted-begins place a at row = integer-then _ at λ n. rules .test _ _ _ λ _. repeat-goes (n .0) a (n .1) row
 
   vector-begins : (place : ℕ) → Begins (Dimensions.vector m r place) (Dimensions.vector m′ r′ place)
   unfolding Dimensions.vector Dimensions.countedBare
@@ -173,7 +182,7 @@ module _ (m m′ : List ℕ) (r r′ : ℕ) (R : Relation) (rules : Rules m m′
       → R (Dimensions.Shape × ℕ) (header (λ (n : Dimensions.Shape × ℕ). n .1)) at (at + 1) (Dimensions.shape m r mayWrap at row) (Dimensions.shape m′ r′ mayWrap at row)
   unfolding Dimensions.shape Dimensions.plain Dimensions.slowest Dimensions.fastest
   shape-related mayWrap at row = first-byte at λ b. if-related _
-      (integer-then at λ n. rules .finish _ (nothing-passes _ _ (omega arith)))
+      (integer-then _ at λ n. rules .finish _ (nothing-passes _ _ (omega arith)))
       (second-byte at λ c. if-related _
       (rules .rest (λ (d : Part). d .1) at (at + 1 + 1) (omega arith) (any-law _)
       (rules .lower (omega arith) (omega arith) (rules .headed (vector-begins at (at + 2) row))) λ d _.
@@ -231,7 +240,7 @@ module _ (m m′ : List ℕ) (r r′ : ℕ) (R : Relation) (rules : Rules m m′
   unfolding Schemas.kindBy Schemas.plainLeaf Schemas.textLeaf Schemas.leaf isCut isKind
   kindBy-begins a at row = first-byte at λ mark.
       if-related _ (rules .row-left at row (rules .finish _ (lone-passes _ _ _ refl (omega arith))))
-      (if-related _ (rules .row-left at row (rules .lower (omega arith) (omega arith) (integer-then (at + 1) λ n.
+      (if-related _ (rules .row-left at row (rules .lower (omega arith) (omega arith) (integer-then _ (at + 1) λ n.
       rules .finish _ (lone-passes _ _ _ refl (omega arith)))))
       (if-related _ (rules .refuse _ _)
       (if-related _ (a bracket at row)
@@ -271,7 +280,7 @@ module _ (m m′ : List ℕ) (r r′ : ℕ) (R : Relation) (rules : Rules m m′
   counted-items-related : (o : Opening) (from at row : ℕ) {item item′ : Reader} → Goes item item′
       → R Part whole from (from + 1) (Containers.counted m r o item from at row) (Containers.counted m′ r′ o item′ from at row)
   unfolding Containers.counted Containers.container
-  counted-items-related o from at row a = integer-then from λ n. rules .over (λ end. end) _ (λ _. container-uncut o) (repeat-goes (n .0) a (n .1) _)
+  counted-items-related o from at row a = integer-then _ from λ n. rules .over (λ end. end) _ (λ _. container-uncut o) (repeat-goes (n .0) a (n .1) _)
 
   plain-related : (o : Opening) (at row : ℕ) {item item′ : Reader} → Begins item item′
       → R Part whole (at + 1) (at + 1 + 1) (Containers.plain m r o item at row) (Containers.plain m′ r′ o item′ at row)
@@ -312,25 +321,26 @@ module _ (m m′ : List ℕ) (r r′ : ℕ) (R : Relation) (rules : Rules m m′
 
   -- ---- values
 
-  value-starts : (nested : Opening → Reader) (row : ℕ) → Starts m (λ at. Read.valueBy m r nested at row)
+  value-starts : (nested : Opening → Reader) (row : ℕ) → Starts m (λ at. Read.valueBy m r g nested at row)
   unfolding Read.valueBy
   value-starts nested row at h = byte-starts m at _ h
 
   valueBy-begins : {nested nested′ : Opening → Reader} → ((o : Opening) → Begins (nested o) (nested′ o))
-      → Begins (Read.valueBy m r nested) (Read.valueBy m′ r′ nested′)
+      → Begins (Read.valueBy m r g nested) (Read.valueBy m′ r′ g′ nested′)
   unfolding Read.valueBy isCut isKind
-  valueBy-begins a at row = first-byte at λ mark.
+  valueBy-begins a at row = rules .look at (at + 1) at (omega arith) (omega arith) λ mark e.
       if-related _ (scalar-related mark (at + 1) at row at (at + 1) (omega arith))
       (if-related _ (text-begins _ _ refl at row)
       (if-related _ (text-begins _ _ refl at row)
       (if-related _ (a bracket at row)
-      (if-related _ (a brace at row) (rules .refuse _ _)))))
+      (if-related _ (a brace at row)
+      (rules .extended _ at (λ t. sym e ∙ eqb-true mark 'E' t) (extension-begins at row))))))
 
-  nested-begins : (levels : ℕ) (o : Opening) → Begins (Read.nested m r levels o) (Read.nested m′ r′ levels o)
+  nested-begins : (levels : ℕ) (o : Opening) → Begins (Read.nested m r g levels o) (Read.nested m′ r′ g′ levels o)
   unfolding Read.nested
   nested-begins zero o at row = rules .refuse _ _
   nested-begins (suc levels) o at row = containerBy-begins (value-starts _) (valueBy-begins (nested-begins levels)) o at row
 
   -- a value, with any number of `N` before it
-  pub value-related : (levels : ℕ) → Begins (spaced m (Read.valueBy m r (Read.nested m r levels))) (spaced m′ (Read.valueBy m′ r′ (Read.nested m′ r′ levels)))
+  pub value-related : (levels : ℕ) → Begins (spaced m (Read.valueBy m r g (Read.nested m r g levels))) (spaced m′ (Read.valueBy m′ r′ g′ (Read.nested m′ r′ g′ levels)))
   value-related levels = spaced-begins (value-starts _) (valueBy-begins (nested-begins levels))

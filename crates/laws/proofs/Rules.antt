@@ -2,13 +2,15 @@
 -- every reader answers. Assumes nothing.
 use Prim.Native.Nat.{ℕ, _+_, _≤_, _<_}
 use mathlib.Core.Path.{_≡_}
-use mathlib.Core.Bool.{Bool, true, false}
+use mathlib.Core.Bool.{Bool, true, false, _&&_}
 use mathlib.Core.List.{List}
 use native.Mathlib.Omega.{arith}
-use lib.ListN.{length}
+use lib.ListN.{length, getD}
 use Rattle.format.specs.Outcome.{Outcome, fault, done, Parsed, _>>=_, _>>_, guard}
-use Rattle.format.specs.Refusals.{endsTooEarly}
-use Rattle.format.specs.Marks.{width}
+use Rattle.format.specs.Conditions.{if_then_else_}
+use Rattle.format.specs.Grammars.{Grammar}
+use Rattle.format.specs.Refusals.{endsTooEarly, notAllowed}
+use Rattle.format.specs.Marks.{width, 'E'}
 use Rattle.format.specs.Tokens.{Token, Forest, none, node}
 use Rattle.format.specs.Storage.{Slot}
 use Rattle.format.specs.Bytes.{skip, reach, byte}
@@ -52,7 +54,7 @@ abbrev pub Relation : Type 1
 Relation = (A : Type 0) → (A → Part) → ℕ → ℕ → Outcome A → Outcome A → Type 0
 
 -- the rules, one for each form of the definitions
-pub record Rules (m m′ : List ℕ) (r r′ : ℕ) (R : Relation) : Type 1 where
+pub record Rules (m m′ : List ℕ) (r r′ : ℕ) (g g′ : Grammar) (R : Relation) : Type 1 where
   pub longer : length m ≤ length m′
   -- the end of a part; a refusal; and one because the first message ended
   pub finish : {A : Type 0} {part : A → Part} {from least : ℕ} (a : A) → Passes least (part a) → R A part from least (done a) (done a)
@@ -68,8 +70,12 @@ pub record Rules (m m′ : List ℕ) (r r′ : ℕ) (R : Relation) : Type 1 wher
       → R A part from least (guard b n p >> o) (guard b n p >> o′)
   pub row-left : {A : Type 0} {part : A → Part} {from least : ℕ} {o o′ : Outcome A} (at row : ℕ) → R A part from least o o′
       → R A part from least (rowLeft r at row >> o) (rowLeft r′ at row >> o′)
+  -- an extension, where the grammar has them and `E` stands
+  pub extended : {A : Type 0} {part : A → Part} {from least : ℕ} {o o′ : Outcome A} (b : Bool) (p : ℕ) → (b ≡ true → getD m p 0 ≡ 'E') → R A part from least o o′
+      → R A part from least (if g .extensions && b then o else fault notAllowed p) (if g′ .extensions && b then o′ else fault notAllowed p)
   -- a byte that is looked at, and a number
-  pub look : {A : Type 0} {part : A → Part} {k k′ : ℕ → Outcome A} (from least at : ℕ) → from ≤ at → at < least → ((b : ℕ) → R A part from least (k b) (k′ b))
+  pub look : {A : Type 0} {part : A → Part} {k k′ : ℕ → Outcome A} (from least at : ℕ) → from ≤ at → at < least
+      → ((b : ℕ) → b ≡ getD m at 0 → R A part from least (k b) (k′ b))
       → R A part from least (byte m at >>= k) (byte m′ at >>= k′)
   pub count : (highest mark place start : ℕ)
       → R (ℕ × ℕ) (header (λ (n : ℕ × ℕ). n .1)) start (start + width mark) (number m highest mark place start) (number m′ highest mark place start)

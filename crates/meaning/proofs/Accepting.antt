@@ -3,13 +3,17 @@ use Prim.Native.Nat.{ℕ, zero, suc, _+_, _≤_}
 use mathlib.Core.Path.{_≡_, refl}
 use mathlib.Core.Bool.{Bool, true, false}
 use mathlib.Core.List.{List}
-use lib.ListN.{length}
-use borrow.Author.Tests.{leb-true}
+use native.Mathlib.Omega.{arith}
+use lib.ListN.{length, getD}
+use borrow.Author.Tests.{leb-true, not-true}
+use Rattle.format.specs.Grammars.{Grammar}
 use Rattle.format.specs.Conditions.{all, among}
 use Rattle.format.specs.Outcome.{Outcome, fault, done}
-use Rattle.format.specs.Limits.{limit, recordLimit, valueLevels, schemaLevels}
-use Rattle.format.specs.Marks.{Opening, bracket, brace, integers, types, isType, isScalar, 'S', 'H'}
+use Rattle.format.specs.Limits.{limit, idLimit, recordLimit, valueLevels, schemaLevels}
+use Rattle.format.specs.Marks.{Opening, bracket, brace, integers, types, isType, isScalar, isInteger, 'S', 'H'}
 use Rattle.format.specs.Tokens.{text as textKind, highPrecision}
+use Rattle.format.specs.Bytes.{oneOf}
+use Rattle.format.specs.Integers.{number, integerTo}
 use Rattle.format.specs.Content.{content, payloadEnd}
 use Rattle.format.specs.Sequences as Sequences
 use Rattle.format.specs.Sequences.{Reader, _⨾_, repeat, until}
@@ -17,15 +21,17 @@ use Rattle.format.specs.Scalars as Scalars
 use Rattle.format.specs.Dimensions as Dimensions
 use Rattle.format.specs.Schemas as Schemas
 use Rattle.format.specs.Containers as Containers
+use Rattle.format.specs.Extensions as Extensions
 use Rattle.format.specs.Read as Read
+use Rattle.format.proofs.Tests.{both-true}
 use Rattle.format.proofs.MarkFacts.{among-passes}
 use Rattle.laws.proofs.Holds as Holds
 use Rattle.laws.proofs.Holds.{Holds, refused, holds, bind-law, then-law, if-law, seq-law, other, guard-law, any-law, weaken}
 use Rattle.laws.proofs.Schemas.{groupKind, keyed, Members, members-append, OneKind, Gives, key-gives, until-gives, kindBy-gives, nested-gives, tableSchema-gives}
 use Rattle.laws.proofs.Counts.{Shaped, highestOrder, shape-gives}
-use Rattle.laws.proofs.Bounds.{reach-law, number-law, integer-law}
+use Rattle.laws.proofs.Bounds.{byte-is, reach-law, number-law, integer-law}
 use Rattle.meaning.proofs.Known.{Content}
-use Rattle.meaning.proofs.Accepted.{Sort, value, key, kind, group, dimension, pair, spaced, one, many, items, fields, weight, Accepted, stop, more, both, apart, aScalar, aText, aNumber, aKey, aContainer, aDimension, aPacked, aLeaf, aTextLeaf, aKind, aGroup, aTable}
+use Rattle.meaning.proofs.Accepted.{Sort, value, key, kind, group, dimension, pair, spaced, one, many, items, fields, weight, Accepted, stop, more, both, apart, aScalar, aText, aNumber, HasId, anExtension, aKey, aContainer, aDimension, aPacked, aLeaf, aTextLeaf, aKind, aGroup, aTable}
 
 -- an answer is what it is
 pub self-law : {A : Type 0} (o : Outcome A) → Holds (Unit {0}) (λ a. o ≡ done a) o
@@ -36,13 +42,13 @@ type-scalar : (mark : ℕ) → isType mark ≡ true → isScalar mark ≡ true
 unfolding isType isScalar types integers all among
 type-scalar mark h = among-passes isScalar types mark refl h
 
-module _ (m : List ℕ) (rowsLent : ℕ) where
+module _ (m : List ℕ) (rowsLent : ℕ) (grammar : Grammar) where
   -- a reader gives one token or more of this sort; or any number
   abbrev Finds : Sort → Reader → Type 0
-  Finds s reader = Gives (Accepted m one s) reader
+  Finds s reader = Gives (Accepted m grammar one s) reader
 
   abbrev FindsMany : Sort → Reader → Type 0
-  FindsMany s reader = Gives (Accepted m many s) reader
+  FindsMany s reader = Gives (Accepted m grammar many s) reader
 
   -- ---- one after another
 
@@ -93,6 +99,22 @@ module _ (m : List ℕ) (rowsLent : ℕ) where
   key-finds at row = bind-law (any-law _) λ mark _. then-law (any-law _) λ _. bind-law (number-law m _ _ _ _) λ n h. bind-law (payload-law _ _ _) λ _ c.
       holds (aKey at (n .1) (n .0) (h .0) c)
 
+  -- an extension's id
+  mark-law : (at : ℕ) → Holds (Unit {0}) (λ mark. (mark ≡ getD m at 0) × (isInteger mark ≡ true)) (oneOf m isInteger at)
+  unfolding oneOf
+  mark-law at = bind-law (byte-is m at) λ mark e. then-law (guard-law _ _ _ refl) λ t. holds (e, t)
+
+  id-law : (at : ℕ) → Holds (Unit {0}) (λ r. HasId m at (r .0)) (integerTo m idLimit (at + 1))
+  unfolding integerTo number
+  id-law at = bind-law (mark-law _) λ mark i. let e = i .0 in let q : at + 1 + 1 ≡ at + 2 = omega arith in
+      then-law (reach-law m _) λ h. then-law (guard-law _ _ _ refl) λ s. then-law (guard-law _ _ _ refl) λ l.
+      holds (record { integer = rw (← e) (i .1); inside = rw (← e) (rw q at h); number = rw (← e, q) refl; unsigned = rw (← e) (not-true _ s); low = leb-true _ idLimit l })
+
+  extension-finds : (levels : ℕ) → grammar .extensions ≡ true → Finds (value levels) (Extensions.extension m rowsLent)
+  unfolding Extensions.extension
+  extension-finds levels g at row = then-law (any-law _) λ _. bind-law (id-law at) λ id i. bind-law (integer-law m _) λ n h. then-law (guard-law _ _ _ refl) λ t. bind-law (payload-law _ _ _) λ _ c.
+      holds (anExtension levels (id .0) at (n .1) (n .0) g i (h .0) t c)
+
   -- ---- dimensions
 
   dimension-finds : (mark start : ℕ) → Finds dimension (Dimensions.dimension m rowsLent mark start)
@@ -132,7 +154,7 @@ module _ (m : List ℕ) (rowsLent : ℕ) where
       if-law _ (λ _. bind-law (any-law _) λ mark _. bind-law (any-law _) λ _ _. counted-finds place _ (bare-finds mark) _ row) λ _.
       marked-more _ (listed-finds _ place) at row
 
-  dimensions-finds : (mayWrap : Bool) (at row : ℕ) → Holds (Unit {0}) (λ r. Accepted m many dimension (r .0 .dimensions)) (Dimensions.shape m rowsLent mayWrap at row)
+  dimensions-finds : (mayWrap : Bool) (at row : ℕ) → Holds (Unit {0}) (λ r. Accepted m grammar many dimension (r .0 .dimensions)) (Dimensions.shape m rowsLent mayWrap at row)
   unfolding Dimensions.shape Dimensions.plain Dimensions.slowest Dimensions.fastest Dimensions.shaped
   dimensions-finds mayWrap at row = bind-law (any-law _) λ _ _.
       if-law _ (λ _. bind-law (any-law _) λ _ _. holds stop) λ _.
@@ -142,7 +164,7 @@ module _ (m : List ℕ) (rowsLent : ℕ) where
 
   -- a count and its dimensions
   shape-finds : (mayWrap : Bool) (at row : ℕ)
-      → Holds (Unit {0}) (λ r. Shaped (highestOrder mayWrap) (r .0 .order) (r .0 .many) (r .0 .dimensions) × Accepted m many dimension (r .0 .dimensions)) (Dimensions.shape m rowsLent mayWrap at row)
+      → Holds (Unit {0}) (λ r. Shaped (highestOrder mayWrap) (r .0 .order) (r .0 .many) (r .0 .dimensions) × Accepted m grammar many dimension (r .0 .dimensions)) (Dimensions.shape m rowsLent mayWrap at row)
   shape-finds mayWrap at row = Holds.both (shape-gives m rowsLent mayWrap at row) (dimensions-finds mayWrap at row)
 
   -- ---- schemas
@@ -151,7 +173,7 @@ module _ (m : List ℕ) (rowsLent : ℕ) where
       → Finds (group (suc levels) o) (Schemas.enclosed m rowsLent (groupKind o) o item)
   unfolding Schemas.enclosed
   enclosed-finds levels o item w k p at row = bind-law
-      (seq-law {P = λ r. Accepted m one (group (suc levels) o) (Schemas.group (groupKind o) o at (r .0))} item _ _ _ (Holds.both (k _ _) (p _ _)) λ f hf.
+      (seq-law {P = λ r. Accepted m grammar one (group (suc levels) o) (Schemas.group (groupKind o) o at (r .0))} item _ _ _ (Holds.both (k _ _) (p _ _)) λ f hf.
       weaken (λ g hg. aGroup levels o at (members-append (hf .0) (hg .0)) (hf .1) (hg .1))
       (Holds.both (until-gives m rowsLent (keyed o) _ _ _ item k _ _) (until-finds (fields levels o) _ _ _ item w p _ _)))
       λ _ h. holds h
@@ -240,22 +262,23 @@ module _ (m : List ℕ) (rowsLent : ℕ) where
 
   -- ---- values
 
-  valueBy-finds : (levels : ℕ) (nested : Opening → Reader) → ((o : Opening) → Finds (value levels) (nested o)) → Finds (value levels) (Read.valueBy m rowsLent nested)
+  valueBy-finds : (levels : ℕ) (nested : Opening → Reader) → ((o : Opening) → Finds (value levels) (nested o)) → Finds (value levels) (Read.valueBy m rowsLent grammar nested)
   unfolding Read.valueBy
   valueBy-finds levels nested p at row = bind-law (any-law _) λ mark _.
       if-law _ (λ t. scalar-finds levels mark (at + 1) t at row) λ _.
       if-law _ (λ _. text-finds levels at row) λ _.
       if-law _ (λ _. number-finds levels at row) λ _.
       if-law _ (λ _. p bracket at row) λ _.
-      if-law _ (λ _. p brace at row) λ _. other refl
+      if-law _ (λ _. p brace at row) λ _.
+      if-law _ (λ t. extension-finds levels (both-true (grammar .extensions) _ t .0) at row) λ _. other refl
 
-  nested-finds : (levels : ℕ) (o : Opening) → Finds (value levels) (Read.nested m rowsLent levels o)
+  nested-finds : (levels : ℕ) (o : Opening) → Finds (value levels) (Read.nested m rowsLent grammar levels o)
   unfolding Read.nested
   nested-finds zero o at row = other refl
   nested-finds (suc levels) o at row = containerBy-finds levels _ (valueBy-finds levels _ (nested-finds levels)) o at row
 
   -- the tokens of an accepted message
-  pub read-finds : Holds (Unit {0}) (λ f. (length m ≤ limit) × Accepted m one (value valueLevels) f) (Read.read m rowsLent)
+  pub read-finds : Holds (Unit {0}) (λ f. (length m ≤ limit) × Accepted m grammar one (value valueLevels) f) (Read.read m rowsLent grammar)
   unfolding Read.read
   read-finds = then-law (guard-law _ _ _ refl) λ s. bind-law (valueBy-finds valueLevels _ (nested-finds valueLevels) _ _) λ r h.
       then-law (any-law _) λ _. holds (leb-true _ limit s, h)

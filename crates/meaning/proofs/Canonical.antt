@@ -7,14 +7,16 @@ use mathlib.Core.Logic.{_↔_}
 use native.Mathlib.Omega.{arith}
 use lib.ListN.{length, getD, take, drop, length-map}
 use lib.Seq.{take-at, drop-at}
+use Rattle.format.specs.Grammars.{Grammar}
 use Rattle.format.specs.Conditions.{if_then_else_, among}
 use Rattle.format.specs.Outcome.{done}
 use Rattle.format.specs.Limits.{limit}
-use Rattle.format.specs.Tokens.{Kind, kindNumber, scalar, text, highPrecision, key, array, object, packed, table, leaf, schemaRecord, fixedArray, dimension, Token, Forest, none, node, size}
+use Rattle.format.specs.Tokens.{Kind, kindNumber, scalar, text, highPrecision, key, array, object, packed, table, leaf, schemaRecord, fixedArray, dimension, extension, Token, Forest, none, node, size}
 use Rattle.format.specs.Rows.{layout, rowOf, rows, allRows}
 use Rattle.format.specs.Read.{read}
+use Rattle.format.specs.Extensions.{idBytes}
 use Rattle.format.specs.HouseForm.{payloadOf, house}
-use Rattle.format.specs.SameMeaning.{free, kept, hasBytes, rowMeaning, SameMeaning}
+use Rattle.format.specs.SameMeaning.{free, kept, hasBytes, hasId, rowMeaning, SameMeaning}
 use Rattle.format.proofs.KindNumbers.{same-number}
 use Rattle.format.proofs.Forests.{length-rows}
 use Rattle.meaning.specs.Rewriting.{Rewritten}
@@ -38,6 +40,7 @@ always leaf = (refl, refl, refl, refl)
 always schemaRecord = (refl, refl, refl, refl)
 always fixedArray = (refl, refl, refl, refl)
 always dimension = (refl, refl, refl, refl)
+always extension = (refl, refl, refl, refl)
 
 -- a word that counts in both rows is the same
 word-same : (b c : Bool) (v w : ℕ) → (if b then 0 else v) ≡ (if c then 0 else w) → b ≡ false → c ≡ false → w ≡ v
@@ -73,7 +76,7 @@ module _ (m h : List ℕ) where
   row-alike : (t u : Token) (k l : ℕ) → rowMeaning m (rowOf t k) ≡ rowMeaning h (rowOf u l) → Alike m h (t .kind) t u × (l ≡ k)
   unfolding rowMeaning rowOf layout kept payloadOf
   row-alike t u k l e =
-      let words : (i : ℕ) → getD (rowMeaning m (rowOf t k) .0) i 0 ≡ getD (rowMeaning h (rowOf u l) .0) i 0 = λ i. ap (λ (x : List ℕ × List ℕ). getD (x .0) i 0) e in
+      let words : (i : ℕ) → getD (rowMeaning m (rowOf t k) .0) i 0 ≡ getD (rowMeaning h (rowOf u l) .0) i 0 = λ i. ap (λ (x : List ℕ × List ℕ × List ℕ). getD (x .0) i 0) e in
       let a = always (t .kind) in
       let b = always (u .kind) in
       let s : u .kind ≡ t .kind = same-number (u .kind) (t .kind) (word-same _ _ (kindNumber (t .kind)) (kindNumber (u .kind)) (words 0) (a .0) (b .0)) in
@@ -85,7 +88,8 @@ module _ (m h : List ℕ) where
           extents = λ c. word-same _ _ (t .extent) (u .extent) (words 4) c (too 4 c);
           counted = word-same _ _ (t .count) (u .count) (words 5) (a .1) (b .1);
           orders = word-same _ _ (t .order) (u .order) (words 7) (a .3) (b .3);
-          contents = λ c. bytes-same _ _ (payloadOf m t) (payloadOf h u) (ap (λ (x : List ℕ × List ℕ). x .1) e) c (ap (λ (x : Kind). hasBytes (kindNumber x)) s ∙ c);
+          contents = λ c. bytes-same _ _ (payloadOf m t) (payloadOf h u) (ap (λ (x : List ℕ × List ℕ × List ℕ). x .1) e) c (ap (λ (x : Kind). hasBytes (kindNumber x)) s ∙ c);
+          ids = λ c. bytes-same _ _ (idBytes m (t .first)) (idBytes h (u .first)) (ap (λ (x : List ℕ × List ℕ × List ℕ). x .2) e) c (ap (λ (x : Kind). hasId (kindNumber x)) s ∙ c);
         },
         word-same _ _ k l (words 6) (a .2) (b .2),
       )
@@ -108,14 +112,14 @@ module _ (m h : List ℕ) where
   one-house-form f g e = same-house m h (meaning-same 0 f g e)
 
 -- Two accepted messages, whose house form fits, have the same meaning exactly if they have the same house form.
-pub meaning-by-house : (m n : List ℕ) (rowsLent rowsLent′ : ℕ) (f g : Forest) → read m rowsLent ≡ done f → read n rowsLent′ ≡ done g → length (house m f) ≤ limit
+pub meaning-by-house : (m n : List ℕ) (rowsLent rowsLent′ : ℕ) (grammar : Grammar) (f g : Forest) → read m rowsLent grammar ≡ done f → read n rowsLent′ grammar ≡ done g → length (house m f) ≤ limit
     → SameMeaning m (allRows f) n (allRows g) ↔ (house n g ≡ house m f)
-meaning-by-house m n rowsLent rowsLent′ f g p q fits = (one-house-form m n f g, back)
+meaning-by-house m n rowsLent rowsLent′ grammar f g p q fits = (one-house-form m n f g, back)
   where
     back : house n g ≡ house m f → SameMeaning m (allRows f) n (allRows g)
     back e =
-        let r = round-trip-with m rowsLent f p fits (size f + size g) (omega arith) in
-        let s : Rewritten n g (size f + size g) (house m f) =
-        subst (Rewritten n g (size f + size g)) e (round-trip-with n rowsLent′ g q (rw e fits) (size f + size g) (omega arith)) in
+        let r = round-trip-with m rowsLent grammar f p fits (size f + size g) (omega arith) in
+        let s : Rewritten n g (size f + size g) grammar (house m f) =
+        subst (Rewritten n g (size f + size g) grammar) e (round-trip-with n rowsLent′ grammar g q (rw e fits) (size f + size g) (omega arith)) in
         let t : s .tokens ≡ r .tokens = let x = r .accepted in let y = s .accepted in cc in
         r .meaning ∙ ap (λ k. map (rowMeaning (house m f)) (allRows k)) (sym t) ∙ sym (s .meaning)

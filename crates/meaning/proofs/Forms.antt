@@ -5,10 +5,12 @@ use mathlib.Core.Path.{_≡_, ap, subst, _∙_}
 use mathlib.Core.List.{List, [], _∷_, _++_}
 use lib.ListN.{length, drop}
 use lib.Dec.{eqb}
+use Rattle.format.specs.Grammars.{Grammar}
 use Rattle.format.specs.Limits.{limit}
 use Rattle.format.specs.Conditions.{if_then_else_}
 use Rattle.format.specs.Marks.{Opening, bracket, brace, opens, closes, 'S', '#', '$'}
-use Rattle.format.specs.Tokens.{Kind, text, highPrecision, key, packed, table, leaf, dimension, Token, Forest}
+use Rattle.format.specs.Tokens.{Kind, text, highPrecision, key, packed, table, leaf, dimension, Token, Forest, extension}
+use Rattle.format.specs.Extensions.{idBytes}
 use Rattle.format.specs.HouseForm.{smallInteger, shape, tableForm, payloadOf, token, written, house}
 use Rattle.format.specs.Containers.{containerKind}
 use Rattle.laws.specs.Places.{At, here, under, later}
@@ -25,12 +27,12 @@ all-at (nextToken s u r) here = s
 all-at (nextToken s u r) (under a) = all-at u a
 all-at (nextToken s u r) (later a) = all-at r a
 
-module _ (h : List ℕ) (rowsLent : ℕ) (s : InHouseForm h rowsLent) where
+module _ (h : List ℕ) (rowsLent : ℕ) (grammar : Grammar) (s : InHouseForm h rowsLent grammar) where
   all-stand : AllStand h (s .tokens)
   all-stand =
-      let fits : length h ≤ limit = of-done (s .tokens) (read-finds h rowsLent) (s .accepted) .0 in
+      let fits : length h ≤ limit = of-done (s .tokens) (read-finds h rowsLent grammar) (s .accepted) .0 in
       let own = s .own in
-      subst (λ x. AllStand x (s .tokens)) own (house-stands h rowsLent (s .tokens) (s .accepted) (rw own fits) (s .tokens) (rw own (s .accepted)))
+      subst (λ x. AllStand x (s .tokens)) own (house-stands h rowsLent grammar (s .tokens) (s .accepted) (rw own fits) (s .tokens) (rw own (s .accepted)))
 
   module _ {k : ℕ} {t : Token} {below : Forest} (a : At 0 (s .tokens) k t below) where
     -- Every token stands in the message as it is written, from its first byte on.
@@ -63,6 +65,11 @@ module _ (h : List ℕ) (rowsLent : ℕ) (s : InHouseForm h rowsLent) where
     pub keys-small : t .kind ≡ key → StandsAs (smallInteger (t .extent) ++ payloadOf h t)
     unfolding token
     keys-small e = stands-as key e
+
+    -- An extension has its mark, its id as it stands, its length likewise, and its bytes.
+    pub extensions-small : t .kind ≡ extension → StandsAs (t .mark ∷ idBytes h (t .first) ++ smallInteger (t .extent) ++ payloadOf h t)
+    unfolding token
+    extensions-small e = stands-as extension e
 
     -- A leaf of a schema has its mark, and the width of a text likewise.
     pub leaves-small : t .kind ≡ leaf → StandsAs (t .mark ∷ (if eqb (t .mark) 'S' then smallInteger (t .extent) else []))

@@ -17,7 +17,7 @@ use Rattle.format.specs.Marks.{isInteger, integers, isSigned, signedIntegers, w
 use Rattle.format.specs.Tokens.{Forest}
 use Rattle.format.specs.Bytes.{bytes, byte, oneOf, reach, little}
 use Rattle.format.specs.Content.{isContent, content, payloadEnd}
-use Rattle.format.specs.Integers.{isNegative, smallest, number, integer}
+use Rattle.format.specs.Integers.{isNegative, smallest, number, integerTo, integer}
 use Rattle.format.specs.HouseForm.{digits, smallInteger}
 use Rattle.format.specs.Sequences.{Reader, rowLeft, spaced}
 use Rattle.format.proofs.Noops.{skip-here}
@@ -116,7 +116,7 @@ module _ (h : List ℕ) where
   unfolding bytes
   from-bytes at n x l w e = rw (← w, e .rest) (take-append-seam x l)
 
-  byte-at : (at b : ℕ) (l : List ℕ) → From at (b ∷ l) → getD h at 0 ≡ b
+  pub byte-at : (at b : ℕ) (l : List ℕ) → From at (b ∷ l) → getD h at 0 ≡ b
   byte-at at b l e = ap (λ n. getD h n 0) (sym (add-zero at)) ∙ sym (getD-drop at h 0 0) ∙ ap (λ x. getD x 0 0) (e .rest)
 
   byte-is : (at b : ℕ) (l : List ℕ) → From at (b ∷ l) → byte h at ≡ done b
@@ -173,7 +173,7 @@ module _ (h : List ℕ) where
 
     pub integer-known : {A : Type 0} {P : A → Type 0} {at : ℕ} {l : List ℕ} (f : ℕ × ℕ → Outcome A) → From at (smallInteger n ++ l)
         → ((next : ℕ) → From next l → Succeeds P (f (n, next))) → Succeeds P (integer h at >>= f)
-    unfolding integer smallInteger _>>=_
+    unfolding integerTo smallInteger _>>=_
     integer-known {at = at} {l = l} f e k =
         let d : From (at + 1) (digits (width (smallest n)) n ++ l) = from-past (smallest n ∷ []) e in
         rw (oneOf-is isInteger at (smallest n) _ e small-mark) (number-known at f d k)
@@ -188,6 +188,28 @@ module _ (h : List ℕ) where
       let x : bytes h at n ≡ bytes m start n = from-bytes at n (bytes m start n) l w e in
       let p : From (at + n) l = from-after n (bytes m start n) w e in
       known f (at + n) (rw (reach-is (at + n) (p .here), x, passes (isContent mark (bytes m start n)) wrongContent at (c .right))) (k p x)
+
+  -- ---- a number that was copied from the message m
+
+  copied-number-known : {A : Type 0} {P : A → Type 0} (m : List ℕ) (highest mark place start n : ℕ) {at : ℕ} (l : List ℕ) (f : ℕ × ℕ → Outcome A)
+      → start + width mark ≤ length m → little (bytes m start (width mark)) ≡ n → isNegative mark n ≡ false → n ≤ highest → From at (bytes m start (width mark) ++ l)
+      → (From (at + width mark) l → bytes h at (width mark) ≡ bytes m start (width mark) → Succeeds P (f (n, at + width mark)))
+      → Succeeds P (number h highest mark place at >>= f)
+  copied-number-known m highest mark place start n {at = at} l f i v s u e k =
+      let w = length-bytes m start (width mark) i in
+      let x : bytes h at (width mark) ≡ bytes m start (width mark) = from-bytes at (width mark) (bytes m start (width mark)) l w e in
+      let y : little (bytes h at (width mark)) ≡ n = ap little x ∙ v in
+      let p : From (at + width mark) l = from-after (width mark) (bytes m start (width mark)) w e in
+      known f _ (rw y at (number-done h highest mark place at (p .here) (rw y s) (rw y u))) (k p x)
+
+  -- and with its mark
+  pub copied-integer-known : {A : Type 0} {P : A → Type 0} (m : List ℕ) (highest mark start n : ℕ) {at : ℕ} (l : List ℕ) (f : ℕ × ℕ → Outcome A) → isInteger mark ≡ true
+      → start + width mark ≤ length m → little (bytes m start (width mark)) ≡ n → isNegative mark n ≡ false → n ≤ highest → From at (mark ∷ (bytes m start (width mark) ++ l))
+      → (From (at + 1 + width mark) l → bytes h (at + 1) (width mark) ≡ bytes m start (width mark) → Succeeds P (f (n, at + 1 + width mark)))
+      → Succeeds P (integerTo h highest at >>= f)
+  unfolding integerTo _>>=_
+  copied-integer-known m highest mark start n {at = at} l f q i v s u e k =
+      rw (oneOf-is isInteger at mark _ e q) (copied-number-known m highest mark at start n l f i v s u (from-past (mark ∷ []) e) k)
 
   -- ---- rows, and no `N`
 

@@ -162,6 +162,7 @@ module _ (m h : List ℕ) where
     counted = a .counted;
     orders = a .orders;
     contents = λ c. absurd (false≢true (sym (no-bytes k e) ∙ c));
+    ids = a .ids;
   }
 
   -- a token, placed where it is no key

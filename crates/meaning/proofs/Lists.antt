@@ -4,12 +4,13 @@ use mathlib.Core.Path.{_≡_, refl, sym, subst, _∙_}
 use mathlib.Core.Bool.{true, false, false≢true}
 use mathlib.Core.List.{List, [], _∷_, _++_, append-assoc}
 use native.Mathlib.Omega.{arith}
+use Rattle.format.specs.Grammars.{Grammar}
 use Rattle.format.specs.Conditions.{if_then_else_, among}
 use Rattle.format.specs.Limits.{limit}
 use Rattle.format.specs.Marks.{Opening, bracket, brace, opens, isScalar, integers, types, '#'}
 use Rattle.format.specs.Tokens.{kindNumber, Forest, size, members}
 use Rattle.format.specs.HouseForm.{smallInteger, token, house}
-use Rattle.format.specs.SameMeaning.{free, hasBytes}
+use Rattle.format.specs.SameMeaning.{free, hasBytes, hasId}
 use Rattle.format.specs.Sequences.{Reader, spaced}
 use Rattle.format.specs.Containers as Containers
 use Rattle.format.specs.Read as Read
@@ -19,10 +20,10 @@ use Rattle.meaning.proofs.Chains.{closers, CopyAt, copyAt, Reading, Cha
 
 -- a container's place, payload and extent may differ, and its bytes don't count
 list-free : (o : Opening) → (among (free (kindNumber (Containers.containerKind o))) 3 ≡ true) × (among (free (kindNumber (Containers.containerKind o))) 4 ≡ true)
-    × (hasBytes (kindNumber (Containers.containerKind o)) ≡ false)
+    × (hasBytes (kindNumber (Containers.containerKind o)) ≡ false) × (hasId (kindNumber (Containers.containerKind o)) ≡ false)
 unfolding free hasBytes among if_then_else_ Containers.containerKind
-list-free bracket = (refl, refl, refl)
-list-free brace = (refl, refl, refl)
+list-free bracket = (refl, refl, refl, refl)
+list-free brace = (refl, refl, refl, refl)
 
 module _ (m h : List ℕ) where
   list-same : (o : Opening) (at at′ start start′ end end′ : ℕ) {under under′ : Forest} → Same m h under under′
@@ -36,12 +37,13 @@ module _ (m h : List ℕ) where
     counted = same-members m h s;
     orders = refl;
     contents = λ b. absurd (false≢true (sym (list-free o .2) ∙ b));
+    ids = λ b. absurd (false≢true (sym (list-free o .3) ∙ b));
   }) s nothing
 
-module _ (m h : List ℕ) (rowsLent most : ℕ) (lent : most ≤ rowsLent) (few : most ≤ limit) where
+module _ (m h : List ℕ) (rowsLent : ℕ) (grammar : Grammar) (most : ℕ) (lent : most ≤ rowsLent) (few : most ≤ limit) where
   -- what reads a value with so many levels left
   abbrev valueAt : ℕ → Reader
-  valueAt levels = Read.valueBy h rowsLent (Read.nested h rowsLent levels)
+  valueAt levels = Read.valueBy h rowsLent grammar (Read.nested h rowsLent grammar levels)
 
   -- the opening mark of a container
   pub enter : {P : Forest × ℕ → Type 0} (levels : ℕ) (o : Opening) (at row : ℕ) (l : List ℕ) → From h at (opens o ∷ l)

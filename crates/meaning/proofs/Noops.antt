@@ -8,11 +8,13 @@ use mathlib.Core.List.{List, _∷_, _++_}
 use native.Mathlib.Omega.{arith}
 use lib.ListN.{drop}
 use lib.Dec.{ltb, eqb}
+use Rattle.format.specs.Grammars.{Grammar}
 use Rattle.format.specs.Conditions.{if_then_else_, among, all}
-use Rattle.format.specs.Marks.{Opening, bracket, brace, opens, width, integers, types, isType, isScalar, isPlainLeaf, 'F', 'H', 'N', 'S', 'T', 'U', 'Z', 'm', 'u', '#', '$', '[', left-brace}
-use Rattle.format.specs.Tokens.{Kind, scalar, text, highPrecision, key, array, object, packed, table, leaf, schemaRecord, fixedArray, dimension, Token, isKind, Forest, none, node, _⊕_}
+use Rattle.format.specs.Marks.{Opening, bracket, brace, opens, width, integers, types, isType, isScalar, isPlainLeaf, 'E', 'F', 'H', 'N', 'S', 'T', 'U', 'Z', 'm', 'u', '#', '$', '[', left-brace}
+use Rattle.format.specs.Tokens.{Kind, scalar, text, highPrecision, key, array, object, packed, table, leaf, schemaRecord, fixedArray, dimension, extension, Token, isKind, Forest, none, node, _⊕_}
 use Rattle.format.specs.Records.{atOffset, placed}
 use Rattle.format.specs.Integers.{smallest}
+use Rattle.format.specs.Extensions.{idBytes}
 use Rattle.format.specs.HouseForm.{smallInteger, shape, tableForm, whole, payloadOf, token, written, house}
 use Rattle.format.specs.Schemas as Schemas
 use Rattle.format.specs.Containers as Containers
@@ -21,7 +23,7 @@ use Rattle.laws.specs.Places.{At, here, under, later}
 use Rattle.laws.proofs.Holds.{of-done}
 use Rattle.meaning.specs.Rewriting.{InHouseForm}
 use Rattle.meaning.specs.Standing.{sideBySide, endToEnd, NoNoop}
-use Rattle.meaning.proofs.Accepted.{Sort, Number, Accepted, stop, more, both, apart, aScalar, aText, aNumber, aKey, aContainer, aDimension, aPacked, aLeaf, aTextLeaf, aKind, aGroup, aTable}
+use Rattle.meaning.proofs.Accepted.{Sort, Number, Accepted, stop, more, both, apart, aScalar, aText, aNumber, anExtension, aKey, aContainer, aDimension, aPacked, aLeaf, aTextLeaf, aKind, aGroup, aTable}
 use Rattle.meaning.proofs.Accepting.{read-finds}
 use Rattle.meaning.proofs.Forms.{lists-counted}
 
@@ -70,6 +72,7 @@ token-begins h t below o = go (t .kind) refl
     go leaf e = record { head = t .mark; tail = _; begins = by leaf e; other = marked leaf e (λ q. let z : _≡_ {A = ℕ} 0 1 = cc in omega arith) }
     go schemaRecord e = record { head = left-brace; tail = _; begins = by schemaRecord e; other = λ q. omega arith }
     go fixedArray e = record { head = '['; tail = _; begins = by fixedArray e; other = λ q. omega arith }
+    go extension e = record { head = t .mark; tail = _; begins = by extension e; other = marked extension e (λ q. let z : _≡_ {A = ℕ} 0 1 = cc in omega arith) }
     go dimension e = record { head = smallest (t .count); tail = _; begins = by dimension e; other = small-other (t .count) }
 
 -- ---- of all tokens
@@ -124,10 +127,13 @@ opens-other brace e = omega arith
 text-other : 'S' ≡ 'N' → ⊥
 text-other e = omega arith
 
+extension-other : 'E' ≡ 'N' → ⊥
+extension-other e = omega arith
+
 number-other : 'H' ≡ 'N' → ⊥
 number-other e = omega arith
 
-accepted-marked : {m : List ℕ} {n : Number} {s : Sort} {f : Forest} → Accepted m n s f → Marked f
+accepted-marked : {m : List ℕ} {grammar : Grammar} {n : Number} {s : Sort} {f : Forest} → Accepted m grammar n s f → Marked f
 unfolding Schemas.leaf Schemas.group Containers.container Containers.stored
 accepted-marked stop = noToken
 accepted-marked (more w p q) = marked-append (accepted-marked p) (accepted-marked q)
@@ -136,6 +142,7 @@ accepted-marked (apart p) = accepted-marked p
 accepted-marked (aScalar levels mark at start t c) = aToken (byMark (scalar-other mark t)) noToken noToken
 accepted-marked (aText levels at start n h c) = aToken (byMark text-other) noToken noToken
 accepted-marked (aNumber levels at start n h c) = aToken (byMark number-other) noToken noToken
+accepted-marked (anExtension levels id at start n g i h t c) = aToken (byMark extension-other) noToken noToken
 accepted-marked (aKey at start n h c) = aToken (byMark text-other) noToken noToken
 accepted-marked (aContainer levels o at start end p) = aToken (byMark (opens-other o)) (accepted-marked p) noToken
 accepted-marked (aDimension mark at start n h) = aToken (byDimension refl) noToken noToken
@@ -153,7 +160,7 @@ own-at (aToken o u r) (later a) = own-at r a
 
 -- ---- a message in house form
 
-module _ (h : List ℕ) (rowsLent : ℕ) (s : InHouseForm h rowsLent) where
+module _ (h : List ℕ) (rowsLent : ℕ) (grammar : Grammar) (s : InHouseForm h rowsLent grammar) where
   -- Nothing stands before its value, or after it.
   pub message-end-to-end : h ≡ endToEnd h (sideBySide (s .tokens))
   message-end-to-end = sym (s .own) ∙ house-end-to-end h (s .tokens)
@@ -163,12 +170,12 @@ module _ (h : List ℕ) (rowsLent : ℕ) (s : InHouseForm h rowsLent) where
     pub lists-end-to-end : (o : Opening) → t .kind ≡ Containers.containerKind o
         → (rest : List ℕ) × (drop (t .first) h ≡ (opens o ∷ '#' ∷ smallInteger (t .count) ++ endToEnd h (sideBySide below)) ++ rest)
     lists-end-to-end o e =
-        let c = lists-counted h rowsLent s a o e in
+        let c = lists-counted h rowsLent grammar s a o e in
         (c .0, c .1 ∙ ap (λ x. (opens o ∷ '#' ∷ smallInteger (t .count) ++ x) ++ c .0) (house-end-to-end h below))
 
     -- No token begins with `N`.
     pub no-noop : NoNoop h t below
-    no-noop = token-begins h t below (own-at (accepted-marked (of-done (s .tokens) (read-finds h rowsLent) (s .accepted) .1)) a)
+    no-noop = token-begins h t below (own-at (accepted-marked (of-done (s .tokens) (read-finds h rowsLent grammar) (s .accepted) .1)) a)
 
     -- And its bytes are these alone: no `N` stands behind them either.
     exactly : (kind : Kind) → t .kind ≡ kind → token h (t .kind) t (written h below) ≡ token h kind t (written h below)
@@ -189,6 +196,10 @@ module _ (h : List ℕ) (rowsLent : ℕ) (s : InHouseForm h rowsLent) where
     pub key-exact : t .kind ≡ key → token h (t .kind) t (written h below) ≡ smallInteger (t .extent) ++ payloadOf h t
     unfolding token
     key-exact e = exactly key e
+
+    pub extension-exact : t .kind ≡ extension → token h (t .kind) t (written h below) ≡ t .mark ∷ idBytes h (t .first) ++ smallInteger (t .extent) ++ payloadOf h t
+    unfolding token
+    extension-exact e = exactly extension e
 
     pub list-exact : (o : Opening) → t .kind ≡ Containers.containerKind o
         → token h (t .kind) t (written h below) ≡ opens o ∷ '#' ∷ smallInteger (t .count) ++ endToEnd h (sideBySide below)

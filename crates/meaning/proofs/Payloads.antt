@@ -8,6 +8,7 @@ use native.Mathlib.Omega.{arith}
 use lib.ListN.{take, drop}
 use lib.Dec.{eqb}
 use borrow.Author.Tests.{le-leb}
+use Rattle.format.specs.Grammars.{Grammar}
 use Rattle.format.specs.Conditions.{among, all}
 use Rattle.format.specs.Outcome.{Outcome, done, _>>=_, _>>_, guard}
 use Rattle.format.specs.Limits.{limit}
@@ -65,10 +66,10 @@ type-no-brace : (mark : ℕ) → isType mark ≡ true → eqb mark left-brace �
 unfolding isType types integers all
 type-no-brace mark t = none-among (λ k. eqb k left-brace) types mark refl t
 
-module _ (m h : List ℕ) (rowsLent most : ℕ) (lent : most ≤ rowsLent) (few : most ≤ limit) where
+module _ (m h : List ℕ) (rowsLent : ℕ) (grammar : Grammar) (most : ℕ) (lent : most ≤ rowsLent) (few : most ≤ limit) where
   pub packed-again : (levels mark at₀ start row₀ : ℕ) (n : Shape) → isType mark ≡ true → n .many ≤ limit → Shapes m h rowsLent most lent true (n .order) (n .many) (n .dimensions)
       → Filled m start (n .many * width mark) (elements row₀ mark (below (n .many)))
-      → Reading m h most closers (Read.valueBy h rowsLent (Read.nested h rowsLent (suc levels))) (Containers.stored packedKind mark at₀ start (n .many * width mark) n (n .dimensions))
+      → Reading m h most closers (Read.valueBy h rowsLent grammar (Read.nested h rowsLent grammar (suc levels))) (Containers.stored packedKind mark at₀ start (n .many * width mark) n (n .dimensions))
   unfolding Containers.stored token house payloadOf opens size among closers hasBytes Containers.containerBy Containers.typed Containers.typedAs Containers.packed
   packed-again levels mark at₀ start row₀ n t u p c = alone-reading m h most (record { head = '['; tail = _; split = refl; fits = refl }) λ at row l e s.
       let dims = house m (n .dimensions) in
@@ -76,7 +77,7 @@ module _ (m h : List ℕ) (rowsLent most : ℕ) (lent : most ≤ rowsLent) (few 
       let e₁ : From h at ('[' ∷ '$' ∷ mark ∷ '#' ∷ (shape (n .order) (n .many) dims ++ (bytes m start extent ++ l))) =
       subst (λ x. From h at ('[' ∷ '$' ∷ mark ∷ '#' ∷ x)) (append-assoc (shape (n .order) (n .many) dims) _ l) e in
       let i : Inside extent (elements row₀ mark (below (n .many))) = rw (length-count 0 (n .many)) at (elements-inside row₀ mark (below (n .many))) in
-      enter m h rowsLent most lent few levels bracket at row _ e₁ (row-known h rowsLent at row (omega arith) (byte-known h _ (from-past h ('[' ∷ []) e₁) (taken _ _ refl
+      enter m h rowsLent grammar most lent few levels bracket at row _ e₁ (row-known h rowsLent at row (omega arith) (byte-known h _ (from-past h ('[' ∷ []) e₁) (taken _ _ refl
       (byte-known h _ (from-past h ('[' ∷ '$' ∷ []) e₁) (passed _ _ (type-no-brace mark t)
       (guard-known _ _ _ t (oneOf-known h _ _ (from-past h ('[' ∷ '$' ∷ mark ∷ []) e₁) refl
       (after (p (at + 4) (row + 1) _ (from-past h ('[' ∷ '$' ∷ mark ∷ '#' ∷ []) e₁) (omega arith)) λ r hr.

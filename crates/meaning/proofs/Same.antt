@@ -5,10 +5,11 @@ use mathlib.Core.Bool.{Bool, true, false, false≢true}
 use mathlib.Core.List.{List, [], _∷_, _++_, map, map-append}
 use native.Mathlib.Omega.{arith}
 use Rattle.format.specs.Conditions.{if_then_else_, among}
-use Rattle.format.specs.Tokens.{Kind, kindNumber, scalar, text, highPrecision, key, array, object, packed, table, leaf, schemaRecord, fixedArray, dimension, Token, Forest, none, node, size, _⊕_, members, counts}
+use Rattle.format.specs.Tokens.{Kind, kindNumber, scalar, text, highPrecision, key, array, object, packed, table, leaf, schemaRecord, fixedArray, dimension, extension, Token, Forest, none, node, size, _⊕_, members, counts}
 use Rattle.format.specs.Rows.{layout, rowOf, rows}
+use Rattle.format.specs.Extensions.{idBytes}
 use Rattle.format.specs.HouseForm.{Written, whole, payloadOf, token, written, house}
-use Rattle.format.specs.SameMeaning.{free, kept, hasBytes, rowMeaning, SameMeaning}
+use Rattle.format.specs.SameMeaning.{free, kept, hasBytes, hasId, rowMeaning, SameMeaning}
 
 -- word k of a row of this kind counts
 abbrev pub Counts : Kind → ℕ → Type 0
@@ -23,6 +24,7 @@ pub record Alike (m h : List ℕ) (kind : Kind) (t u : Token) : Type 0 where
   pub counted : u .count ≡ t .count
   pub orders : u .order ≡ t .order
   pub contents : hasBytes (kindNumber kind) ≡ true → payloadOf h u ≡ payloadOf m t
+  pub ids : hasId (kindNumber kind) ≡ true → idBytes h (u .first) ≡ idBytes m (t .first)
 
 -- tokens that are alike, one by one
 pub data Same (m h : List ℕ) : Forest → Forest → Type 0 where
@@ -47,6 +49,7 @@ first-free leaf = refl
 first-free schemaRecord = refl
 first-free fixedArray = refl
 first-free dimension = refl
+first-free extension = refl
 
 -- a word that may differ, or is the same
 word-kept : (b : Bool) (v w : ℕ) → (b ≡ false → w ≡ v) → (if b then 0 else v) ≡ (if b then 0 else w)
@@ -77,6 +80,7 @@ module _ (m h : List ℕ) where
             ∷ word-kept (may 7) (t .order) (u .order) (λ _. a .orders) i
             ∷ [],
         bytes-kept (hasBytes kind) (payloadOf m t) (payloadOf h u) (a .contents) i,
+        bytes-kept (hasId kind) (idBytes m (t .first)) (idBytes h (u .first)) (a .ids) i,
       ))
 
   pub same-size : {f g : Forest} → Same m h f g → size g ≡ size f
@@ -126,6 +130,7 @@ module _ (m h : List ℕ) where
   token-same schemaRecord t u under a = refl
   token-same fixedArray t u under a = refl
   token-same dimension t u under a = rw (a .counted)
+  token-same extension t u under a = rw (a .contents refl, a .marks refl, a .extents refl, a .ids refl)
 
   -- tokens that are alike are written alike
   pub same-written : {f g : Forest} → Same m h f g → written h g ≡ written m f

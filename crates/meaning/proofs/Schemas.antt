@@ -5,12 +5,13 @@ use mathlib.Core.Bool.{Bool, true, false, not, false≢true}
 use mathlib.Core.List.{List, [], _∷_, _++_, append-assoc}
 use native.Mathlib.Omega.{arith}
 use lib.Dec.{eqb}
+use Rattle.format.specs.Grammars.{Grammar}
 use Rattle.format.specs.Conditions.{if_then_else_, among, all}
 use Rattle.format.specs.Limits.{limit}
 use Rattle.format.specs.Marks.{Opening, bracket, brace, opens, closes, isPlainLeaf, integers, types, leafWidth, 'S', 'T', 'Z', '$', '['}
 use Rattle.format.specs.Tokens.{kindNumber, Forest, size, _⊕_}
 use Rattle.format.specs.HouseForm.{smallInteger, token, written, whole, house}
-use Rattle.format.specs.SameMeaning.{hasBytes}
+use Rattle.format.specs.SameMeaning.{hasBytes, hasId}
 use Rattle.format.specs.Sequences.{Reader, _⨾_}
 use Rattle.format.specs.Scalars as Scalars
 use Rattle.format.specs.Schemas as Schemas
@@ -40,10 +41,10 @@ unfolding if_then_else_
 text-written x = refl
 
 -- the bytes of a schema's tokens don't count
-group-bytes : (o : Opening) → hasBytes (kindNumber (groupKind o)) ≡ false
+group-bytes : (o : Opening) → (hasBytes (kindNumber (groupKind o)) ≡ false) × (hasId (kindNumber (groupKind o)) ≡ false)
 unfolding hasBytes among
-group-bytes bracket = refl
-group-bytes brace = refl
+group-bytes bracket = (refl, refl)
+group-bytes brace = (refl, refl)
 
 module _ (m h : List ℕ) where
   leaf-same : (mark at at′ n : ℕ) → Same m h (Schemas.leaf mark at n) (Schemas.leaf mark at′ n)
@@ -56,6 +57,7 @@ module _ (m h : List ℕ) where
     counted = refl;
     orders = refl;
     contents = λ b. absurd (false≢true b);
+    ids = λ b. absurd (false≢true b);
   }) nothing nothing
 
   group-same : (o : Opening) (at at′ : ℕ) {under under′ : Forest} {k due : Bool} → Members k due under → Same m h under under′
@@ -68,11 +70,12 @@ module _ (m h : List ℕ) where
     extents = λ _. same-width m h (members-schematic u) s;
     counted = same-members m h s;
     orders = refl;
-    contents = λ b. absurd (false≢true (sym (group-bytes o) ∙ b));
+    contents = λ b. absurd (false≢true (sym (group-bytes o .0) ∙ b));
+    ids = λ b. absurd (false≢true (sym (group-bytes o .1) ∙ b));
   }) s nothing
 
 -- a schema or fixed array begins with its opening mark
-pub group-begins : (m : List ℕ) {levels : ℕ} {o : Opening} {f : Forest} → Accepted m Accepted.one (group levels o) f → (y : List ℕ) × (house m f ≡ opens o ∷ y)
+pub group-begins : (m : List ℕ) {grammar : Grammar} {levels : ℕ} {o : Opening} {f : Forest} → Accepted m grammar Accepted.one (group levels o) f → (y : List ℕ) × (house m f ≡ opens o ∷ y)
 unfolding house written whole token Schemas.group
 group-begins m (aGroup levels bracket at u p q) = (_, refl)
 group-begins m (aGroup levels brace at u p q) = (_, refl)
@@ -96,7 +99,7 @@ module _ (m h : List ℕ) (rowsLent most : ℕ) (lent : most ≤ rowsLent) where
       (integer-known h n u _ (from-past h ('S' ∷ []) e₁) λ next e₂. succeeds (copyAt refl (leaf-same m h 'S' at₀ at n) noToken, e₂)))))
 
   -- a nested schema or fixed array is a kind
-  pub kind-again : (nested : Opening → Reader) {levels : ℕ} (o : Opening) {f : Forest} → Accepted m Accepted.one (group levels o) f → Reading m h most closers (nested o) f → Kind nested f
+  pub kind-again : (nested : Opening → Reader) {grammar : Grammar} {levels : ℕ} (o : Opening) {f : Forest} → Accepted m grammar Accepted.one (group levels o) f → Reading m h most closers (nested o) f → Kind nested f
   unfolding Schemas.kindBy isPlainLeaf types integers among opens
   kind-again nested bracket g p = record {
     begins = p .begins;

@@ -6,6 +6,7 @@ use mathlib.Core.List.{List, [], _∷_, _++_, append-assoc}
 use native.Mathlib.Omega.{arith}
 use native.Mathlib.Nat.{mul-le-mul-left}
 use borrow.Author.Tests.{le-leb}
+use Rattle.format.specs.Grammars.{Grammar}
 use Rattle.format.specs.Conditions.{among}
 use Rattle.format.specs.Limits.{limit, recordLimit, schemaLevels}
 use Rattle.format.specs.Refusals.{overLimit}
@@ -50,9 +51,9 @@ regroup : (mark : ℕ) (schema count payload l : List ℕ) → tableForm mark sc
 unfolding tableForm
 regroup mark schema count payload l = simp append-assoc
 
-module _ (m h : List ℕ) (rowsLent most : ℕ) (lent : most ≤ rowsLent) (few : most ≤ limit) where
+module _ (m h : List ℕ) (rowsLent : ℕ) (grammar : Grammar) (most : ℕ) (lent : most ≤ rowsLent) (few : most ≤ limit) where
   -- the header and the payload of a table
-  table-reads : (levels : ℕ) (o : Opening) (at₀ start row₀ : ℕ) {s : Forest} (n : Shape) → Accepted m one (group schemaLevels brace) s → Group brace s
+  table-reads : (levels : ℕ) (o : Opening) (at₀ start row₀ : ℕ) {s : Forest} (n : Shape) → Accepted m grammar one (group schemaLevels brace) s → Group brace s
       → Reading m h most closers (Schemas.nested h rowsLent schemaLevels brace) s → totalWidth s ≤ recordLimit
       → n .many ≤ limit → Shapes m h rowsLent most lent false (n .order) (n .many) (n .dimensions)
       → Filled m start (n .many * totalWidth s) (records o (memberRow row₀) (belowFirst s) (below (n .many)))
@@ -60,13 +61,13 @@ module _ (m h : List ℕ) (rowsLent most : ℕ) (lent : most ≤ rowsLent) (few 
       → From h at (opens o ∷ '$' ∷ (house m s ++ '#' ∷ (shape (n .order) (n .many) (house m (n .dimensions)) ++ (bytes m start (n .many * totalWidth s) ++ l))))
       → row + suc (size s + size (n .dimensions)) ≤ most
       → Succeeds (λ r. CopyAt m h at (Containers.stored tableKind (opens o) at₀ start (n .many * totalWidth s) n (placed 0 s ⊕ n .dimensions)) (r .0) × From h (r .1) l)
-      (Read.valueBy h rowsLent (Read.nested h rowsLent (suc levels)) at row)
+      (Read.valueBy h rowsLent grammar (Read.nested h rowsLent grammar (suc levels)) at row)
   unfolding Containers.containerBy Containers.typed Containers.table Schemas.tableSchema Containers.stored hasBytes among opens
   table-reads levels o at₀ start row₀ {s} n a g p v u q c at row l e z =
       let extent = n .many * totalWidth s in
       let e₂ = from-past h (opens o ∷ '$' ∷ []) e in
       let d : Schematic s = members-schematic (group-one g false) in
-      enter m h rowsLent most lent few levels o at row _ e (row-known h rowsLent at row (omega arith) (byte-known h _ (from-past h (opens o ∷ []) e) (taken _ _ refl
+      enter m h rowsLent grammar most lent few levels o at row _ e (row-known h rowsLent at row (omega arith) (byte-known h _ (from-past h (opens o ∷ []) e) (taken _ _ refl
       (byte-known h _ (subst (λ b. From h (at + 2) (b ++ '#' ∷ (shape (n .order) (n .many) (house m (n .dimensions)) ++ (bytes m start extent ++ l)))) (group-begins m a .1) e₂) (taken _ _ refl
       (after (p .reads (at + 2) (row + 1) _ e₂ (omega arith)) λ r hr.
       oneOf-known h _ _ (hr .1) refl
@@ -78,15 +79,15 @@ module _ (m h : List ℕ) (rowsLent most : ℕ) (lent : most ≤ rowsLent) (few 
       let under = copy-append (record { same = same-placed m h d (hr .0 .same) 0; stand = all-placed h (schematic-same m h d (hr .0 .same)) (hr .0 .stand) 0 }) (hf .2) in
       succeeds (copyAt refl (copied-same m h tableKind (opens o) at₀ at start (f .1) extent (n .many) (n .order) refl x (under .same)) (under .stand), w)))))))))))
 
-  pub table-again : (levels : ℕ) (o : Opening) (at₀ start row₀ : ℕ) {s : Forest} (n : Shape) → Accepted m one (group schemaLevels brace) s → Group brace s
+  pub table-again : (levels : ℕ) (o : Opening) (at₀ start row₀ : ℕ) {s : Forest} (n : Shape) → Accepted m grammar one (group schemaLevels brace) s → Group brace s
       → Reading m h most closers (Schemas.nested h rowsLent schemaLevels brace) s → totalWidth s ≤ recordLimit
       → n .many ≤ limit → Shapes m h rowsLent most lent false (n .order) (n .many) (n .dimensions)
       → Filled m start (n .many * totalWidth s) (records o (memberRow row₀) (belowFirst s) (below (n .many)))
-      → Reading m h most closers (Read.valueBy h rowsLent (Read.nested h rowsLent (suc levels)))
+      → Reading m h most closers (Read.valueBy h rowsLent grammar (Read.nested h rowsLent grammar (suc levels)))
       (Containers.stored tableKind (opens o) at₀ start (n .many * totalWidth s) n (placed 0 s ⊕ n .dimensions))
   unfolding Containers.stored token payloadOf tableForm size
   table-again levels o at₀ start row₀ {s} n a g p v u q c =
-      alone-reading m h most (record { head = opens o; tail = _; split = refl; fits = opens-begins m h rowsLent most lent few o }) λ at row l e z.
+      alone-reading m h most (record { head = opens o; tail = _; split = refl; fits = opens-begins m h rowsLent grammar most lent few o }) λ at row l e z.
       let payload = bytes m start (n .many * totalWidth s) in
       let e₀ : From h at (tableForm (opens o) (house m s) (shape (n .order) (n .many) (house m (n .dimensions))) payload ++ l) =
       subst (λ (w : Written). From h at (tableForm (opens o) (w .first) (shape (n .order) (n .many) (w .rest)) payload ++ l)) (schema-written m (n .dimensions) g) e in

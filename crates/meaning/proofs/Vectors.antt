@@ -59,6 +59,7 @@ module _ (m h : List ℕ) (rowsLent most : ℕ) (lent : most ≤ rowsLent) where
           counted = refl;
           orders = refl;
           contents = λ b. absurd (false≢true b);
+          ids = λ b. absurd (false≢true b);
         }) nothing nothing) noToken,
         e₂,
       )))

@@ -7,17 +7,18 @@ use native.Mathlib.Omega.{arith}
 use native.Mathlib.Decide.{decLt}
 use native.Mathlib.Nat.{le-refl}
 use lib.ListN.{length}
+use Rattle.format.specs.Grammars.{Grammar, new}
 use Rattle.format.specs.Outcome.{Outcome, fault, done, numberOf, _>>=_}
-use Rattle.format.specs.Refusals.{noRowLeft}
+use Rattle.format.specs.Refusals.{notAllowed, noRowLeft}
 use Rattle.format.specs.Tokens.{Token, leaf as leafKind, Forest, node, belowFirst}
 use Rattle.format.specs.Rows.{rowsIn}
 use Rattle.format.specs.Indexes.{below, indexes, numberIn}
 use Rattle.format.specs.Storage.{Slot, memberRow, records, slotsOf, dimensionsOf, storage}
 use Rattle.format.specs.Addresses.{Region, tableSlot}
-use Rattle.format.specs.Read.{read, readInto, wordsAfter}
-use Rattle.format.specs.Panel.{Table, tables, leafRows, pick, slotFor, readWhole, panelSlot}
+use Rattle.format.specs.Read.{read, readWhole, readInto, wordsAfter}
+use Rattle.format.specs.Panel.{Table, tables, leafRows, pick, slotFor, panelSlot}
 use Rattle.laws.specs.Places.{At}
-use Rattle.laws.proofs.Reading.{more-rows, rows-enough}
+use Rattle.laws.proofs.Reading.{more-rows, wider-grammar, rows-enough}
 use Rattle.storage.specs.Places.{Field, Filled}
 use Rattle.storage.specs.Addresses.{call, regionOf}
 use Rattle.storage.proofs.Places.{read-fills}
@@ -34,12 +35,14 @@ use Rattle.panel_laws.proofs.Looked.{table-slots, slot-there, slot-over
 
 -- ---- a message that is accepted with some rows lent is accepted with rows enough
 
-accepted-whole : (m : List ℕ) (rowsLent : ℕ) (f : Forest) → read m rowsLent ≡ done f → readWhole m ≡ done f
+accepted-whole : (m : List ℕ) (rowsLent : ℕ) (grammar : Grammar) (f : Forest) → read m rowsLent grammar ≡ done f → readWhole m new ≡ done f
 unfolding readWhole numberOf
-accepted-whole m rowsLent f e = elim (decLt rowsLent (length m)) [
-  | yes h ↦ more-rows m rowsLent (length m) (omega arith) (λ q. let z : 0 ≡ noRowLeft = rw e at q in absurd (omega arith)) ∙ e
-  | no h ↦ sym (more-rows m (length m) rowsLent (omega arith) (rows-enough m (length m) (le-refl (length m)))) ∙ e
-]
+accepted-whole m rowsLent grammar f e =
+    let e′ : read m rowsLent new ≡ done f = wider-grammar m rowsLent grammar new (λ _. refl) (λ q. let z : 0 ≡ notAllowed = rw e at (q .0) in absurd (omega arith)) ∙ e in
+    elim (decLt rowsLent (length m)) [
+      | yes h ↦ more-rows m rowsLent new (length m) (omega arith) (λ q. let z : 0 ≡ noRowLeft = rw e′ at q in absurd (omega arith)) ∙ e′
+      | no h ↦ sym (more-rows m (length m) new rowsLent (omega arith) (rows-enough m (length m) new (le-refl (length m)))) ∙ e′
+    ]
 
 -- ---- a leaf and a record of a table
 
@@ -47,7 +50,7 @@ accepted-whole m rowsLent f e = elim (decLt rowsLent (length m)) [
 abbrev regionIn : Token → Outcome (Slot ℕ) → Outcome Region
 regionIn t o = o >>= λ s. done (record { mark = s .mark; first = t .payload + s .offset; wide = s .wide })
 
-module _ (m : List ℕ) (rowsLent : ℕ) (f : Forest) (accepted : read m rowsLent ≡ done f) (ws : List ℕ) (filled : Filled f ws) where
+module _ (m : List ℕ) (rowsLent : ℕ) (grammar : Grammar) (f : Forest) (accepted : read m rowsLent grammar ≡ done f) (ws : List ℕ) (filled : Filled f ws) where
   -- what the address call answers for the indexes of a record
   abbrev atRecord : ℕ → Token → Forest → ℕ → ℕ → Outcome Region
   atRecord row t under leafRow r = pick (indexes (t .order) (dimensionsOf t under)) r >>= λ is. tableSlot ws (length m) row leafRow is
@@ -62,7 +65,7 @@ module _ (m : List ℕ) (rowsLent : ℕ) (f : Forest) (accepted : read m rowsLen
         → tableSlot ws (length m) row leafRow is ≡ done (regionOf t slot)
     unfolding call
     answered leafRow is slot e q i =
-        let a = rw (table-address row t s members dims ok slot) at (slot-answered m rowsLent f accepted ws filled x (inr (ok .kind-is)) i .1) in
+        let a = rw (table-address row t s members dims ok slot) at (slot-answered m rowsLent grammar f accepted ws filled x (inr (ok .kind-is)) i .1) in
         rw (← e, ← q) a
 
     module _ {fieldRow leafRow : ℕ} {field l : Token} (y : Field (memberRow row) members fieldRow field leafRow l) (k : l .kind ≡ leafKind) (r : ℕ) where
@@ -105,9 +108,9 @@ module _ (m : List ℕ) (rowsLent : ℕ) (f : Forest) (accepted : read m rowsLen
           → (o >>= λ leafRow. regionIn (t .token) (slotFor leafRow r (slotsOf (t .row) (t .token) (t .under) (below (t .token .count)))))
           ≡ (o >>= λ leafRow. atRecord (t .row) (t .token) (t .under) leafRow r)
       go (fault n p) e = refl
-      go (done leafRow) e = of-table (as-table (is-stored m rowsLent f accepted (x .found) (inr (x .is-table))) (x .is-table)) (x .found) leafRow (λ p. leaf-picked t leaf leafRow p e)
+      go (done leafRow) e = of-table (as-table (is-stored m rowsLent grammar f accepted (x .found) (inr (x .is-table))) (x .is-table)) (x .found) leafRow (λ p. leaf-picked t leaf leafRow p e)
 
-  same-table : (tableNumber leafNumber recordNumber : ℕ) → readWhole m ≡ done f → panelSlot m tableNumber leafNumber recordNumber ≡ byAddress m ws f tableNumber leafNumber recordNumber
+  same-table : (tableNumber leafNumber recordNumber : ℕ) → readWhole m new ≡ done f → panelSlot m tableNumber leafNumber recordNumber ≡ byAddress m ws f tableNumber leafNumber recordNumber
   unfolding panelSlot byAddress _>>=_
   same-table tableNumber leafNumber recordNumber e = rw e (go (pick (tables 0 f) tableNumber) refl)
     where
@@ -121,8 +124,8 @@ module _ (m : List ℕ) (rowsLent : ℕ) (f : Forest) (accepted : read m rowsLen
 
 -- Of a message that was read into lent words and accepted, with these tokens: the panel's slot, or its refusal, is what the address call
 -- answers on the words that reading left.
-pub panel-slot-addressed : (m lent : List ℕ) (f : Forest) → readInto m lent ≡ done f → (tableNumber leafNumber recordNumber : ℕ)
-    → panelSlot m tableNumber leafNumber recordNumber ≡ byAddress m (wordsAfter (length lent) (readInto m lent)) f tableNumber leafNumber recordNumber
+pub panel-slot-addressed : (m lent : List ℕ) (grammar : Grammar) (f : Forest) → readInto m lent grammar ≡ done f → (tableNumber leafNumber recordNumber : ℕ)
+    → panelSlot m tableNumber leafNumber recordNumber ≡ byAddress m (wordsAfter (length lent) (readInto m lent grammar)) f tableNumber leafNumber recordNumber
 unfolding readInto
-panel-slot-addressed m lent f e tableNumber leafNumber recordNumber =
-    same-table m (rowsIn lent) f e (wordsAfter (length lent) (read m (rowsIn lent))) (rw e (read-fills (length lent) f)) tableNumber leafNumber recordNumber (accepted-whole m (rowsIn lent) f e)
+panel-slot-addressed m lent grammar f e tableNumber leafNumber recordNumber =
+    same-table m (rowsIn lent) grammar f e (wordsAfter (length lent) (read m (rowsIn lent) grammar)) (rw e (read-fills (length lent) f)) tableNumber leafNumber recordNumber (accepted-whole m (rowsIn lent) grammar f e)

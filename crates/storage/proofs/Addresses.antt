@@ -6,6 +6,7 @@ use mathlib.Core.List.{List, List·Memᴰ}
 use mathlib.Core.Logic.{_⊎_, inl, inr}
 use native.Mathlib.Omega.{arith}
 use lib.ListN.{length}
+use Rattle.format.specs.Grammars.{Grammar}
 use Rattle.format.specs.Outcome.{Outcome, fault, done}
 use Rattle.format.specs.Refusals.{notThere, rowsDontFit}
 use Rattle.format.specs.Tokens.{Token, Forest}
@@ -22,13 +23,13 @@ use Rattle.storage.proofs.Tiling.{tiles-hold}
 use Rattle.storage.proofs.MessageSlots.{slots-tile, slot-in-payload, slot-in-range, one-slot, slots-apart}
 use Rattle.storage.proofs.Verdicts as Verdicts
 
-module _ (m : List ℕ) (rowsLent : ℕ) (f : Forest) (accepted : read m rowsLent ≡ done f) (ws : List ℕ) (filled : Filled f ws) where
+module _ (m : List ℕ) (rowsLent : ℕ) (grammar : Grammar) (f : Forest) (accepted : read m rowsLent grammar ≡ done f) (ws : List ℕ) (filled : Filled f ws) where
   -- ---- what the calls answer
 
   -- Every address: 12 if it names no packed row, or no table row and leaf of its schema; then 10 if its indexes are wrong in number or
   -- range; else the region of the slot whose address it is.
   pub verdict : (a : Address) → Verdict f a (call ws (length m) a)
-  verdict a = Verdicts.verdict m rowsLent f accepted ws filled a
+  verdict a = Verdicts.verdict m rowsLent grammar f accepted ws filled a
 
   -- ---- an address that is answered
 
@@ -79,9 +80,9 @@ module _ (m : List ℕ) (rowsLent : ℕ) (f : Forest) (accepted : read m rowsLen
   pub slot-answered : {row : ℕ} {t : Token} {below : Forest} {s : Slot (List ℕ)} → At 0 f row t below → IsCut (t .kind) → List·Memᴰ s (storage row t below)
       → InRange f (addressOf row t s) × (call ws (length m) (addressOf row t s) ≡ done (regionOf t s))
   slot-answered {t = t} x c i =
-      let n = slot-in-range m rowsLent f accepted x c i in
+      let n = slot-in-range m rowsLent grammar f accepted x c i in
       let y = in-range-answered (n .0) (n .1) in
-      (isInRange (n .0) (n .1), y .3 ∙ ap (λ z. done (regionOf t z)) (one-slot m rowsLent f accepted x c (y .1) i (y .2)))
+      (isInRange (n .0) (n .1), y .3 ∙ ap (λ z. done (regionOf t z)) (one-slot m rowsLent grammar f accepted x c (y .1) i (y .2)))
 
   -- Indexes wrong in number or range: 10.
   pub wrong-indexes : {a : Address} {row : ℕ} {t : Token} {below : Forest} → Names f a row t below → (Below (indexesOf a) (dimensionsOf t below) → ⊥)
@@ -111,7 +112,7 @@ module _ (m : List ℕ) (rowsLent : ℕ) (f : Forest) (accepted : read m rowsLen
       let x = answer a r e in
       let q = names-same (x .named) n in
       let p = names-at (x .named) in
-      let i = slot-in-payload m rowsLent f accepted (p .0) (p .1) (x .member) in
+      let i = slot-in-payload m rowsLent grammar f accepted (p .0) (p .1) (x .member) in
       subst₂ (λ u (z : Region). (u .payload ≤ z .first) × (z .first + z .wide ≤ u .payload + u .extent)) (q .1) (x .region-is) i
 
   -- Two addresses that are answered are the same, or their bytes lie apart: in one row or in two.
@@ -124,14 +125,14 @@ module _ (m : List ℕ) (rowsLent : ℕ) (f : Forest) (accepted : read m rowsLen
       let k = names-at (y .named) in
       subst₂ (λ c c′. (c ≡ c′) ⊎ RegionsApart r q) (x .address-is) (y .address-is)
       (subst₂ (λ z z′. (addressOf (x .row) (x .token) (x .own) ≡ addressOf (y .row) (y .token) (y .own)) ⊎ RegionsApart z z′) (x .region-is) (y .region-is)
-      (slots-apart m rowsLent f accepted (n .0) (k .0) (n .1) (k .1) (x .member) (y .member)))
+      (slots-apart m rowsLent grammar f accepted (n .0) (k .0) (n .1) (k .1) (x .member) (y .member)))
 
   -- Every byte of a payload lies in the slot of exactly one address in range.
   pub byte-in-one : {row : ℕ} {t : Token} {below : Forest} → At 0 f row t below → IsCut (t .kind) → (byte : ℕ) → t .payload ≤ byte → byte < t .payload + t .extent
       → InOne f (call ws (length m)) byte
   unfolding regionOf
   byte-in-one {row} {t} x c byte p q =
-      let h = tiles-hold (byte - t .payload) (slots-tile m rowsLent f accepted x c) (omega arith) (omega arith) in
+      let h = tiles-hold (byte - t .payload) (slots-tile m rowsLent grammar f accepted x c) (omega arith) (omega arith) in
       let s = h .0 in
       let a = slot-answered x c (h .1) in
       let low = h .2 in

@@ -6,6 +6,7 @@ use mathlib.Core.List.{List, List·Memᴰ}
 use mathlib.Core.Logic.{_⊎_, inl, inr}
 use native.Mathlib.Omega.{arith}
 use lib.ListN.{length}
+use Rattle.format.specs.Grammars.{Grammar}
 use Rattle.format.specs.Outcome.{done}
 use Rattle.format.specs.Marks.{Opening, bracket, brace, opens, '[', left-brace}
 use Rattle.format.specs.Tokens.{Token, packed, table, Forest, node}
@@ -35,11 +36,11 @@ same-first : {mark first first′ wide : ℕ} → first ≡ first′
     → _≡_ {A = Region} (record { mark = mark; first = first; wide = wide }) (record { mark = mark; first = first′; wide = wide })
 same-first {mark} {wide = wide} e = ap (λ x. record { mark = mark; first = x; wide = wide }) e
 
-module _ (m : List ℕ) (rowsLent : ℕ) (f : Forest) (accepted : read m rowsLent ≡ done f) where
+module _ (m : List ℕ) (rowsLent : ℕ) (grammar : Grammar) (f : Forest) (accepted : read m rowsLent grammar ≡ done f) where
   -- ---- payloads
 
   in-order : InOrder 0 (length m) f
-  in-order = of-done f (read-bounded m rowsLent) accepted .1
+  in-order = of-done f (read-bounded m rowsLent grammar) accepted .1
 
   -- The payload of a packed array or table lies inside the message.
   pub payload-in-message : {row : ℕ} {t : Token} {below : Forest} → At 0 f row t below → IsCut (t .kind) → t .payload + t .extent ≤ length m
@@ -54,7 +55,7 @@ module _ (m : List ℕ) (rowsLent : ℕ) (f : Forest) (accepted : read m rowsLen
 
   -- a packed array or table is one that reading gives
   pub is-stored : {row : ℕ} {t : Token} {below : Forest} → At 0 f row t below → IsCut (t .kind) → Stored t below
-  is-stored x c = at-stored (of-done f (read-stored m rowsLent) accepted) x c
+  is-stored x c = at-stored (of-done f (read-stored m rowsLent grammar) accepted) x c
 
   -- The slots of a packed array or table lie end to end, from its payload's first byte to its last.
   pub slots-tile : {row : ℕ} {t : Token} {below : Forest} → At 0 f row t below → IsCut (t .kind) → Tiles (t .extent) 0 (storage row t below)

@@ -5,12 +5,14 @@ use mathlib.Core.Bool.{Bool, true, false, false≢true}
 use mathlib.Core.List.{List}
 use native.Mathlib.Omega.{arith}
 use lib.Dec.{eqb}
+use Rattle.format.specs.Grammars.{Grammar}
 use Rattle.format.specs.Marks.{Opening, bracket, brace, opens, isType, width, left-brace}
 use Rattle.format.specs.Tokens.{Token, Kind, packed as packedKind, table as tableKind, key as keyKind, leaf as leafKind, dimension as dimensionKind, schemaRecord, firstSlowest, firstFastest, isKind, Forest, none, node, alone, _⊕_}
 use Rattle.format.specs.Records.{totalWidth, atOffset, placed}
 use Rattle.format.specs.Sequences.{Reader, _⨾_, repeat, until, spaced}
 use Rattle.format.specs.Scalars as Scalars
 use Rattle.format.specs.Containers as Containers
+use Rattle.format.specs.Extensions as Extensions
 use Rattle.format.specs.Read as Read
 use Rattle.laws.specs.Places.{At, here, under, later, IsCut}
 use Rattle.laws.proofs.Holds.{Holds, holds, bind-law, then-law, if-law, seq-law, other, guard-law, any-law, weaken}
@@ -165,6 +167,11 @@ module _ (m : List ℕ) (rowsLent : ℕ) where
   unfolding Scalars.key isCut isKind
   key-stored at row = bind-law (any-law _) λ _ _. then-law (any-law _) λ _. bind-law (any-law _) λ _ _. bind-law (any-law _) λ _ _. holds (lone refl)
 
+  extension-stored : Gives AllStored (Extensions.extension m rowsLent)
+  unfolding Extensions.extension isCut isKind
+  extension-stored at row = then-law (any-law _) λ _. bind-law (any-law _) λ _ _. bind-law (any-law _) λ _ _. then-law (any-law _) λ _.
+      bind-law (any-law _) λ _ _. holds (lone refl)
+
   packed-stored : (mark from : ℕ) → isType mark ≡ true → Gives AllStored (Containers.packed m rowsLent mark from)
   unfolding Containers.packed Containers.stored
   packed-stored mark from h at row = bind-law (shape-gives m rowsLent true from _) λ n s. then-law (any-law _) λ _. then-law (any-law _) λ _. then-law (any-law _) λ _.
@@ -214,21 +221,23 @@ module _ (m : List ℕ) (rowsLent : ℕ) where
       if-law _ (λ _. counted-stored o _ (at + 2) (spaced-stored _ (items-stored o value p)) at row) λ _.
       plain-stored o _ (items-stored o value p) at row
 
-  valueBy-stored : (nested : Opening → Reader) → ((o : Opening) → Gives AllStored (nested o)) → Gives AllStored (Read.valueBy m rowsLent nested)
-  unfolding Read.valueBy isCut isKind
-  valueBy-stored nested p at row = bind-law (any-law _) λ mark _.
-      if-law _ (λ _. scalar-stored mark _ at row) λ _.
-      if-law _ (λ _. text-stored _ _ refl at row) λ _.
-      if-law _ (λ _. text-stored _ _ refl at row) λ _.
-      if-law _ (λ _. p bracket at row) λ _.
-      if-law _ (λ _. p brace at row) λ _. other refl
+  module _ (grammar : Grammar) where
+    valueBy-stored : (nested : Opening → Reader) → ((o : Opening) → Gives AllStored (nested o)) → Gives AllStored (Read.valueBy m rowsLent grammar nested)
+    unfolding Read.valueBy isCut isKind
+    valueBy-stored nested p at row = bind-law (any-law _) λ mark _.
+        if-law _ (λ _. scalar-stored mark _ at row) λ _.
+        if-law _ (λ _. text-stored _ _ refl at row) λ _.
+        if-law _ (λ _. text-stored _ _ refl at row) λ _.
+        if-law _ (λ _. p bracket at row) λ _.
+        if-law _ (λ _. p brace at row) λ _.
+        if-law _ (λ _. extension-stored at row) λ _. other refl
 
-  nested-stored : (levels : ℕ) (o : Opening) → Gives AllStored (Read.nested m rowsLent levels o)
-  unfolding Read.nested
-  nested-stored zero o at row = other refl
-  nested-stored (suc levels) o at row = containerBy-stored _ (valueBy-stored _ (nested-stored levels)) o at row
+    nested-stored : (levels : ℕ) (o : Opening) → Gives AllStored (Read.nested m rowsLent grammar levels o)
+    unfolding Read.nested
+    nested-stored zero o at row = other refl
+    nested-stored (suc levels) o at row = containerBy-stored _ (valueBy-stored _ (nested-stored levels)) o at row
 
-  -- a message
-  pub read-stored : Holds (Unit {0}) AllStored (Read.read m rowsLent)
-  unfolding Read.read
-  read-stored = then-law (any-law _) λ _. bind-law (valueBy-stored _ (nested-stored _) _ _) λ r h. then-law (any-law _) λ _. holds h
+    -- a message
+    pub read-stored : Holds (Unit {0}) AllStored (Read.read m rowsLent grammar)
+    unfolding Read.read
+    read-stored = then-law (any-law _) λ _. bind-law (valueBy-stored _ (nested-stored _) _ _) λ r h. then-law (any-law _) λ _. holds h

@@ -8,6 +8,7 @@ use native.Mathlib.Omega.{arith}
 use native.Mathlib.Decide.{decLt}
 use lib.ListN.{length}
 use lib.Dec.{eqb}
+use Rattle.format.specs.Grammars.{Grammar}
 use Rattle.format.specs.Outcome.{fault, done, _>>=_}
 use Rattle.format.specs.Refusals.{rowsDontFit}
 use Rattle.format.specs.Conditions.{among}
@@ -28,12 +29,12 @@ use Rattle.storage.proofs.Walks.{isnt-a, along-unfit}
 use Rattle.storage.proofs.MessageSlots.{is-stored, payload-in-message}
 use Rattle.storage.proofs.Calls as Calls
 
-module _ (m : List ℕ) (rowsLent : ℕ) (f : Forest) (accepted : read m rowsLent ≡ done f) where
+module _ (m : List ℕ) (rowsLent : ℕ) (grammar : Grammar) (f : Forest) (accepted : read m rowsLent grammar ≡ done f) where
   stored : {row : ℕ} {t : Token} {below : Forest} → At 0 f row t below → IsCut (t .kind) → Stored t below
-  stored x c = is-stored m rowsLent f accepted x c
+  stored x c = is-stored m rowsLent grammar f accepted x c
 
   fits : {row : ℕ} {t : Token} {below : Forest} → At 0 f row t below → IsCut (t .kind) → t .payload + t .extent ≤ length m
-  fits x c = payload-in-message m rowsLent f accepted x c
+  fits x c = payload-in-message m rowsLent grammar f accepted x c
 
   module _ (ws : List ℕ) (filled : Filled f ws) where
     -- a row has a token of this kind, or its words don't say that it has
