@@ -149,7 +149,7 @@ module _ (m : List ℕ) (at : ℕ) where
       record {
         marked = e;
         long = let two : at + 1 + 1 ≡ at + 2 = omega arith in
-            integer-number m (at + 1) (omega arith) (rw u refl) ∙ rw (u, two) (one-byte m (at + 2) (at + 1) (at + 3) (omega arith) (omega arith) b);
+            integer-number m _ (at + 1) (omega arith) (rw u refl) ∙ rw (u, two) (one-byte m (at + 2) (at + 1) (at + 3) (omega arith) (omega arith) b);
         right = letters-end m (at + 3) _ h a;
         sized = refl;
         inside = h;

@@ -7,6 +7,7 @@ use mathlib.Core.List.{List, [], _∷_}
 use native.Mathlib.Omega.{arith}
 use lib.ListN.{length, getD}
 use borrow.Author.Tests.{lt-ltb, ne-eqb}
+use Rattle.format.specs.Grammars.{Grammar}
 use Rattle.format.specs.Conditions.{if_then_else_, among, all}
 use Rattle.format.specs.Outcome.{done, _>>=_, _>>_, guard}
 use Rattle.format.specs.Marks.{Opening, bracket, brace, closes, integers, isInteger, types, isScalar, width, 'F', 'N', 'S', 'T', 'Z', ']', right-brace}
@@ -85,7 +86,7 @@ module _ (m : List ℕ) (at : ℕ) where
     pub starts : (opening : Opening) → Begins m (closes opening) at
     pub on : at < end
     pub one : members (alone t) ≡ 1
-    pub read : (lent row : ℕ) → row < lent → (nested : Opening → Reader) → valueBy m lent nested at row ≡ done (alone t, end)
+    pub read : (lent row : ℕ) → row < lent → (grammar : Grammar) (nested : Opening → Reader) → valueBy m lent grammar nested at row ≡ done (alone t, end)
 
   module _ (end : ℕ) where
     pub scalar-stands : ScalarEnds m at end → Stands (uncounted Tokens.scalar (getD m at 0) at (at + 1) (end - (at + 1))) end
@@ -97,7 +98,7 @@ module _ (m : List ℕ) (at : ℕ) where
           starts = λ opening. begins-here m at opening there (scalar-begins _ (s .marked));
           on = omega arith;
           one = refl;
-          read = λ lent row h nested. rw (lt-ltb _ _ there, s .marked, n) (scalar-row m lent at row (getD m at 0) (at + 1) h ∙ rw (s .right));
+          read = λ lent row h grammar nested. rw (lt-ltb _ _ there, s .marked, n) (scalar-row m lent at row (getD m at 0) (at + 1) h ∙ rw (s .right));
         }
 
     pub text-stands : TextEnds m at end → Stands (uncounted Tokens.text 'S' at (at + 3) (end - (at + 3))) end
@@ -109,7 +110,7 @@ module _ (m : List ℕ) (at : ℕ) where
           starts = λ opening. begins-here m at opening there (rw (s .marked));
           on = omega arith;
           one = refl;
-          read = λ lent row h nested. rw (lt-ltb _ _ there, s .marked, n) (text-there m lent at row Tokens.text 'S' _ _ h (s .long) ∙ rw (s .right));
+          read = λ lent row h grammar nested. rw (lt-ltb _ _ there, s .marked, n) (text-there m lent at row Tokens.text 'S' _ _ h (s .long) ∙ rw (s .right));
         }
 
     -- either, by its mark
@@ -145,31 +146,31 @@ module _ (m : List ℕ) (at : ℕ) where
 module _ (m : List ℕ) (lent : ℕ) where
   -- its row lies in the words
   laid-value : (at row next : ℕ) (t : Token) (now after : List ℕ) → Stands m at t next → row < lent → after ≡ store now row (rowOf t (row + 1))
-      → (nested : Opening → Reader) → Laid (valueBy m lent nested at row) row 1 now after next (row + 1)
-  laid-value at row next t now after s h e nested = rw (s .read lent row h nested) (rw (s .one) at (laid-alone t row next now after e))
+      → (grammar : Grammar) (nested : Opening → Reader) → Laid (valueBy m lent grammar nested at row) row 1 now after next (row + 1)
+  laid-value at row next t now after s h e grammar nested = rw (s .read lent row h grammar nested) (rw (s .one) at (laid-alone t row next now after e))
 
   -- a member of an array
   pub value-passed : (at row next : ℕ) (t : Token) (now after : List ℕ) → Stands m at t next → row < lent → after ≡ store now row (rowOf t (row + 1))
       → PassedIn m lent bracket at row now (record { at = next; row = row + 1; count = 1 }) after
   unfolding items
-  value-passed at row next t now after s h e nested =
-      passed-one m (closes bracket) (valueBy m lent nested) at row next (row + 1) now after (s .starts bracket) (s .on) (laid-value at row next t now after s h e nested)
+  value-passed at row next t now after s h e grammar nested =
+      passed-one m (closes bracket) (valueBy m lent grammar nested) at row next (row + 1) now after (s .starts bracket) (s .on) (laid-value at row next t now after s h e grammar nested)
 
   -- a member of an object: a key, and the value right after it
   pub pair-passed : (at row value next : ℕ) (t : Token) (now mid after : List ℕ) → KeyEnds m at value → Stands m value t next → row + 1 < lent
       → mid ≡ store now row (rowOf (uncounted Tokens.key 'S' at (at + 2) (value - (at + 2))) (row + 1)) → after ≡ store mid (row + 1) (rowOf t (row + 1 + 1))
       → PassedIn m lent brace at row now (record { at = next; row = row + 1 + 1; count = 1 }) after
   unfolding items spaced members isKind if_then_else_
-  pair-passed at row value next t now mid after k s h d e nested =
-      passed-one m (closes brace) (key m lent ⨾ spaced m (valueBy m lent nested)) at row next (row + 1 + 1) now after (key-starts m at value k) (omega arith)
-      (seq-meets (Next next (row + 1 + 1)) (key m lent) (spaced m (valueBy m lent nested)) at row 0 value (row + 1) 1 now mid after
+  pair-passed at row value next t now mid after k s h d e grammar nested =
+      passed-one m (closes brace) (key m lent ⨾ spaced m (valueBy m lent grammar nested)) at row next (row + 1 + 1) now after (key-starts m at value k) (omega arith)
+      (seq-meets (Next next (row + 1 + 1)) (key m lent) (spaced m (valueBy m lent grammar nested)) at row 0 value (row + 1) 1 now mid after
       (rw (key-read m at value k lent row (omega arith)) (laid-alone _ row value now mid d))
-      (rw (s .starts brace .here) (laid-value value (row + 1) next t mid after s h e nested)))
+      (rw (s .starts brace .here) (laid-value value (row + 1) next t mid after s h e grammar nested)))
 
   -- some members, and then more
   pub passed-more : (opening : Opening) (start first : ℕ) (before now after : List ℕ) (r q : Run) → PassedIn m lent opening start first before r now
       → PassedIn m lent opening (r .at) (r .row) now q after → PassedIn m lent opening start first before (record { at = q .at; row = q .row; count = r .count + q .count }) after
-  passed-more opening start first before now after r q p h nested = passed-join m (closes opening) (items m lent opening (valueBy m lent nested)) (p nested) (h nested)
+  passed-more opening start first before now after r q p h grammar nested = passed-join m (closes opening) (items m lent opening (valueBy m lent grammar nested)) (p grammar nested) (h grammar nested)
 
 -- ---- a loop over them
 
@@ -182,7 +183,7 @@ module _ (m : List ℕ) (lent : ℕ) (opening : Opening) (most start first : ℕ
 
   -- none is passed yet
   pub running-start : Here m lent start first → Running start first 0 before
-  running-start h = record { ends = omega arith; same = refl; passed = λ nested. passed-start _ _ _ start first before }
+  running-start h = record { ends = omega arith; same = refl; passed = λ grammar nested. passed-start _ _ _ start first before }
 
   -- one more is passed
   pub running-turn : {at row count next row′ : ℕ} {now after : List ℕ} → Running at row count now → count < most → at < next → next ≤ length m → row′ ≤ lent → row′ ≤ next

@@ -4,6 +4,7 @@ use mathlib.Core.Path.{_≡_}
 use mathlib.Core.List.{List}
 use lib.ListN.{length, getD}
 use lib.Dec.{eqb}
+use Rattle.format.specs.Grammars.{Grammar}
 use Rattle.format.specs.Conditions.{if_then_else_}
 use Rattle.format.specs.Marks.{Opening, closes, 'S'}
 use Rattle.format.specs.Tokens.{Token, text, scalar, uncounted, Forest, size, members}
@@ -50,7 +51,7 @@ pub record Passed (m : List ℕ) (closing : ℕ) (item : Reader) (start first : 
 -- the members of an array or object, whatever reads a container in them
 abbrev pub PassedIn : List ℕ → ℕ → Opening → ℕ → ℕ → List ℕ → Run → List ℕ → Type 0
 PassedIn m lent opening start first before r now =
-    (nested : Opening → Reader) → Passed m (closes opening) (items m lent opening (valueBy m lent nested)) start first before (r .at) (r .row) (r .count) now
+    (grammar : Grammar) (nested : Opening → Reader) → Passed m (closes opening) (items m lent opening (valueBy m lent grammar nested)) start first before (r .at) (r .row) (r .count) now
 
 -- where a run ends: so many members at most, each with a byte, and again a row for each byte before at most
 pub record RunEnds (most start high lent : ℕ) (r : Run) : Type 0 where

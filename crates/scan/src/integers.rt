@@ -1,4 +1,4 @@
-// Integers that are lengths, counts and dimensions.
+// Integers that are lengths, counts, dimensions and ids.
 use format::limits::LIMIT;
 use format::marks::Mark;
 ghost use mathlib.Core.Path.{_≡_};
@@ -7,7 +7,7 @@ ghost use lib.ListN.{length};
 ghost use Rattle.format.specs.Limits.{limit};
 ghost use Rattle.format.specs.Marks.{width};
 ghost use Rattle.format.specs.Bytes.{little, bytes};
-ghost use Rattle.format.specs.Integers.{isNegative, number as numberIn, integer as integerIn};
+ghost use Rattle.format.specs.Integers.{isNegative, number as numberIn, integerTo, integer as integerIn};
 ghost use Rattle.scan.specs.Numbers.{littleAt, parsed, Bounded};
 
 // The little-endian number of the `width` bytes from `at` on; 0 where they aren't all there, or are more than eight.
@@ -76,10 +76,10 @@ pub fn number(message: &[u8], highest: u32, mark: Mark, place: usize, start: usi
     Parsed::Number(n as u32, next)
 }
 
-// An integer record: a mark and its number.
-pub fn integer(message: &[u8], at: usize) -> Parsed
-    ensures is { λ r. ⌜ parsed r ≡ integerIn (now (message .entry)) at ⌝ }
-    ensures bounds { λ r. ⌜ Bounded r limit (at + 2) (length (now (message .entry))) ⌝ }
+// An integer record: a mark and its number, at most `highest`.
+pub fn integer_to(message: &[u8], highest: u32, at: usize) -> Parsed
+    ensures is { λ r. ⌜ parsed r ≡ integerTo (now (message .entry)) highest at ⌝ }
+    ensures bounds { λ r. ⌜ Bounded r highest (at + 2) (length (now (message .entry))) ⌝ }
 {
     let end = message.len();
     if end <= at {
@@ -89,5 +89,13 @@ pub fn integer(message: &[u8], at: usize) -> Parsed
     if !mark.is_integer() {
         return Parsed::Refused(3, at);
     }
-    number(message, LIMIT, mark, at, at + 1)
+    number(message, highest, mark, at, at + 1)
+}
+
+// A length, a count or a dimension.
+pub fn integer(message: &[u8], at: usize) -> Parsed
+    ensures is { λ r. ⌜ parsed r ≡ integerIn (now (message .entry)) at ⌝ }
+    ensures bounds { λ r. ⌜ Bounded r limit (at + 2) (length (now (message .entry))) ⌝ }
+{
+    integer_to(message, LIMIT, at)
 }

@@ -6,16 +6,17 @@ use mathlib.Core.List.{List}
 use lib.ListN.{length, getD}
 use borrow.Author.Tests.{le-leb, lt-leb, lt-ltb, le-ltb}
 use Rattle.format.specs.Outcome.{Outcome, Parsed, fault, done, _>>=_, _>>_, guard}
-use Rattle.format.specs.Limits.{limit}
+use Rattle.format.specs.Limits.{limit, idLimit}
 use Rattle.format.specs.Refusals.{endsTooEarly, notAllowed, wrongContent, noRowLeft}
-use Rattle.format.specs.Marks.{isInteger, width, 'S'}
+use Rattle.format.specs.Marks.{isInteger, width, 'S', 'E'}
 use Rattle.format.specs.Tokens as Tokens
 use Rattle.format.specs.Tokens.{Kind, Forest, alone, uncounted}
 use Rattle.format.specs.Bytes.{bytes, reach, byte, oneOf}
 use Rattle.format.specs.Content.{isContent, content, payloadEnd}
-use Rattle.format.specs.Integers.{number, integer}
+use Rattle.format.specs.Integers.{number, integerTo, integer}
 use Rattle.format.specs.Sequences.{rowLeft}
 use Rattle.format.specs.Scalars.{scalar, unmarked, text, key}
+use Rattle.format.specs.Extensions.{mayHave, extensionToken, extension}
 
 -- ---- a payload
 
@@ -92,3 +93,29 @@ module _ (m : List ℕ) (lent at row : ℕ) where
           → key m lent at row ≡ after Tokens.key 'S' at start n (payloadEnd m 'S' start n)
       unfolding key oneOf byte rowLeft guard _>>_ _>>=_ after
       key-there n start h e = rw (lt-ltb _ _ there, marked, lt-ltb _ _ h, e)
+
+  pub extension-no-row : lent ≤ row → extension m lent at row ≡ fault noRowLeft at
+  unfolding extension rowLeft guard _>>_
+  extension-no-row h = rw (le-ltb _ _ h)
+
+  -- an extension's id is refused, or read
+  module _ (left : row < lent) where
+    pub extension-id : (x y : ℕ) → integerTo m idLimit (at + 1) ≡ fault x y → extension m lent at row ≡ fault x y
+    unfolding extension rowLeft guard _>>_ _>>=_
+    extension-id x y e = rw (lt-ltb _ _ left, e)
+
+    -- its length is refused, or read
+    module _ (id from : ℕ) (read : integerTo m idLimit (at + 1) ≡ done (id, from)) where
+      pub extension-length : (x y : ℕ) → integer m from ≡ fault x y → extension m lent at row ≡ fault x y
+      unfolding extension rowLeft guard _>>_ _>>=_
+      extension-length x y e = rw (lt-ltb _ _ left, read, e)
+
+      -- it isn't the size that the id asks for, or it is
+      module _ (n start : ℕ) (sized : integer m from ≡ done (n, start)) where
+        pub extension-other : mayHave id n ≡ false → extension m lent at row ≡ fault wrongContent at
+        unfolding extension rowLeft guard _>>_ _>>=_
+        extension-other e = rw (lt-ltb _ _ left, read, sized, e)
+
+        pub extension-there : mayHave id n ≡ true → extension m lent at row ≡ (payloadEnd m 'E' start n >>= λ next. done (alone (extensionToken id at start n), next))
+        unfolding extension rowLeft guard _>>_ _>>=_
+        extension-there e = rw (lt-ltb _ _ left, read, sized, e)

@@ -10,7 +10,7 @@ use Rattle.format.specs.Conditions.{if_then_else_}
 use Rattle.format.specs.Tokens.{leaf, isKind}
 use Rattle.format.specs.Answers.{kindOf}
 use Rattle.format.specs.declared.answers.Kind.{Kind}
-use Rattle.format.specs.declared.answers.Kind.the-variants.{Scalar, Text, HighPrecision, Key, Array, Object, Packed, Table, Leaf, SchemaRecord, FixedArray, Dimension}
+use Rattle.format.specs.declared.answers.Kind.the-variants.{Scalar, Text, HighPrecision, Key, Array, Object, Packed, Table, Leaf, SchemaRecord, FixedArray, Dimension, Extension}
 use Rattle.format.proofs.answers.Kind.{the-type}
 use Rattle.values.specs.Due as Due
 use Rattle.values.proofs.scalars.due.Statement.{statement}
@@ -18,7 +18,7 @@ use Rattle.values.proofs.scalars.due.Tie as tie
 
 -- the kinds but the leaf, by their places in the enum
 others : List ℕ
-others = 0 ∷ 1 ∷ 2 ∷ 3 ∷ 4 ∷ 5 ∷ 6 ∷ 7 ∷ 9 ∷ 10 ∷ 11 ∷ []
+others = 0 ∷ 1 ∷ 2 ∷ 3 ∷ 4 ∷ 5 ∷ 6 ∷ 7 ∷ 9 ∷ 10 ∷ 11 ∷ 12 ∷ []
 
 no-leaf : (k : Kind) → OneOf others (tagOf the-type k) → isKind leaf (kindOf k) ≡ false
 unfolding isKind others
@@ -34,6 +34,7 @@ no-leaf Leaf o = absurd (miss others 8 tt o)
 no-leaf SchemaRecord o = refl
 no-leaf FixedArray o = refl
 no-leaf Dimension o = refl
+no-leaf Extension o = refl
 
 pub due-spec : {M : Type 1} → statement M
 unfolding Due.due isKind if_then_else_ others
