@@ -4,19 +4,20 @@ use mathlib.Core.Path.{_≡_, refl}
 use mathlib.Core.List.{List}
 use native.Mathlib.Omega.{arith}
 use lib.ListN.{length}
+use Rattle.format.specs.Grammars.{new}
 use Rattle.format.specs.Outcome.{Outcome, fault, done, numberOf, placeOf, orZero}
 use Rattle.format.specs.Tokens.{Forest, size}
-use Rattle.format.specs.Read.{rowsUsed}
-use Rattle.format.specs.Panel.{readWhole, numberAndPlace, rowsNeeded}
+use Rattle.format.specs.Read.{readWhole, rowsUsed}
+use Rattle.format.specs.Panel.{numberAndPlace, rowsNeeded}
 use Rattle.laws.proofs.Faults.{fault-within}
 use Rattle.laws.proofs.Reading.{accepted-short, rows-few}
 use Rattle.panel.specs.Layout.{numberAndPlaceParts, rowsParts}
 
 module _ (m : List ℕ) where
   module _ (n p : ℕ) (refused : fault n p ≡ rowsNeeded m) where
-    pub read-refused : readWhole m ≡ fault n p
-    unfolding rowsNeeded rowsUsed
-    read-refused = go (readWhole m) refused
+    pub read-refused : readWhole m new ≡ fault n p
+    unfolding rowsUsed
+    read-refused = go (readWhole m new) refused
       where
         go : (o : Outcome Forest) → fault n p ≡ rowsUsed o → o ≡ fault n p
         go (fault n′ p′) e = let a : n′ ≡ n = cc in let b : p′ ≡ p = cc in rw (a, b)
@@ -24,7 +25,7 @@ module _ (m : List ℕ) where
 
     pub refused-fits : (n < 2 ^ 8) × (p < 2 ^ 24)
     unfolding readWhole
-    refused-fits = let h = fault-within m (length m) n p read-refused in (omega arith, omega arith)
+    refused-fits = let h = fault-within m (length m) new n p read-refused in (omega arith, omega arith)
 
     pub refused-place : record { number = n; place = p; amount = 0 } ≡ numberAndPlaceParts (numberAndPlace m)
     unfolding numberAndPlaceParts numberAndPlace numberOf placeOf
@@ -38,14 +39,14 @@ module _ (m : List ℕ) where
     -- the tokens that were read
     pub record Accepted : Type 0 where
       pub forest : Forest
-      pub read : readWhole m ≡ done forest
+      pub read : readWhole m new ≡ done forest
       pub took : rows ≡ size forest
 
     pub accepted : Accepted
-    unfolding rowsNeeded rowsUsed
-    accepted = go (readWhole m) refl answered
+    unfolding rowsUsed
+    accepted = go (readWhole m new) refl answered
       where
-        go : (o : Outcome Forest) → readWhole m ≡ o → done rows ≡ rowsUsed o → Accepted
+        go : (o : Outcome Forest) → readWhole m new ≡ o → done rows ≡ rowsUsed o → Accepted
         go (fault n p) r e = let z : _≡_ {A = ℕ} 0 1 = cc in absurd (omega arith)
         go (done f) r e = record { forest = f; read = r; took = cc }
 
@@ -53,8 +54,8 @@ module _ (m : List ℕ) where
     unfolding readWhole
     rows-fit =
         let a = accepted in
-        let h = rows-few m (length m) (a .forest) (a .read) in
-        let l = accepted-short m (length m) (a .forest) (a .read) in
+        let h = rows-few m (length m) new (a .forest) (a .read) in
+        let l = accepted-short m (length m) new (a .forest) (a .read) in
         omega (arith, a .took)
 
     pub done-place : record { number = 0; place = 0; amount = 0 } ≡ numberAndPlaceParts (numberAndPlace m)

@@ -16,7 +16,9 @@ use Rattle.format.specs.Indexes.{below}
 use Rattle.format.specs.Storage.{Slot, memberRow, slotsOf}
 use Rattle.format.specs.Addresses.{Region}
 use Rattle.format.specs.Answers.{firstAndWidth}
-use Rattle.format.specs.Panel.{Table, tables, leafRows, pick, slotFor, readWhole, panelSlot}
+use Rattle.format.specs.Grammars.{new}
+use Rattle.format.specs.Read.{readWhole}
+use Rattle.format.specs.Panel.{Table, tables, leafRows, pick, slotFor, panelSlot}
 use Rattle.format.specs.Limits.{limit}
 use Rattle.format.specs.Refusals.{notThere}
 use Rattle.format.specs.Marks.{Opening}
@@ -57,15 +59,15 @@ stored-inside : {t : Token} {under : Forest} (row : ℕ) → t .kind ≡ tableKi
 stored-inside row is (packedArray ok) = let z : _≡_ {A = ℕ} 0 1 = cc (ok .kind-is) in absurd (omega arith)
 stored-inside {t} row is (recordTable {s = s} {members = members} {dimensions = dimensions} ok) = table-inside row t s members dimensions ok
 
-module _ (m : List ℕ) (f : Forest) (accepted : readWhole m ≡ done f) (row : ℕ) (t : Token) (under : Forest) (at : At 0 f row t under) (is : t .kind ≡ tableKind) where
+module _ (m : List ℕ) (f : Forest) (accepted : readWhole m new ≡ done f) (row : ℕ) (t : Token) (under : Forest) (at : At 0 f row t under) (is : t .kind ≡ tableKind) where
   -- First byte and width fit.
   slot-fits : (leafRow number : ℕ) (s : Slot ℕ) → slotFor leafRow number (slotsOf row t under (below (t .count))) ≡ done s
       → (t .payload + s .offset < 2 ^ 24) × (s .wide < 2 ^ 32)
   unfolding readWhole
   slot-fits leafRow number s e =
-      let h = taken-inside leafRow number (t .extent) (stored-inside row is (is-stored m (length m) f accepted at (inr is))) e in
-      let p = payload-in-message m (length m) f accepted at (inr is) in
-      let l = accepted-short m (length m) f accepted in
+      let h = taken-inside leafRow number (t .extent) (stored-inside row is (is-stored m (length m) new f accepted at (inr is))) e in
+      let p = payload-in-message m (length m) new f accepted at (inr is) in
+      let l = accepted-short m (length m) new f accepted in
       (omega arith, omega arith)
 
 -- ---- the call
@@ -128,11 +130,11 @@ module _ (t : Table) (leaf number : ℕ) where
 
 module _ (m : List ℕ) (table leaf number : ℕ) where
   -- A refused message answers its own number.
-  pub refused-slot : (n p : ℕ) → readWhole m ≡ fault n p → record { number = n; place = 0; amount = 0 } ≡ slotParts (firstAndWidth (panelSlot m table leaf number))
+  pub refused-slot : (n p : ℕ) → readWhole m new ≡ fault n p → record { number = n; place = 0; amount = 0 } ≡ slotParts (firstAndWidth (panelSlot m table leaf number))
   unfolding panelSlot _>>=_ firstAndWidth slotParts
   refused-slot n p e = rw e
 
-  module _ (f : Forest) (accepted : readWhole m ≡ done f) where
+  module _ (f : Forest) (accepted : readWhole m new ≡ done f) where
     -- A table that isn't there is 10.
     pub missing-slot : pick (tables 0 f) table ≡ fault notThere 0
         → record { number = notThere; place = 0; amount = 0 } ≡ slotParts (firstAndWidth (panelSlot m table leaf number))
@@ -166,5 +168,5 @@ module _ (m : List ℕ) (table leaf number : ℕ) where
         → o ≡ firstAndWidth (slotOf (h .table) leaf number)
     unfolding readWhole
     slot-there opening first row h o k =
-        k (length m) row (h .end) (h .table .token) (h .table .under) (accepted-short m (length m) f accepted) (h .read)
+        k (length m) row (h .end) (h .table .token) (h .table .under) (accepted-short m (length m) new f accepted) (h .read)
         ∙ ap (λ (r : ℕ). firstAndWidth (slotOf (tableOf r (h .table .token) (h .table .under)) leaf number)) (sym (h .stands))

@@ -1,5 +1,6 @@
 // The panel's calls: what they answer from the message only, each as one 64-bit number. specs/Layout.antt says how its parts lie.
 use format::answers::Answer;
+use format::answers::Edition;
 use format::answers::Located;
 use records::slot::slot_in;
 use seek::TableFound;
@@ -22,7 +23,7 @@ fn packed(number: u32, place: usize, amount: usize) -> u64
 pub fn number_and_place(message: &[u8]) -> u64
     ensures { λ r. ⌜ partsOf r ≡ numberAndPlaceParts (numberAndPlace (now (message .entry))) ⌝ }
 {
-    match reader::message::rows_needed(message) {
+    match reader::message::rows_needed(Edition::New, message) {
         Answer::Refused(n, p) => packed(n, p, 0),
         Answer::Done(_) => packed(0, 0, 0),
     }
@@ -32,7 +33,7 @@ pub fn number_and_place(message: &[u8]) -> u64
 pub fn rows_needed(message: &[u8]) -> u64
     ensures { λ r. ⌜ partsOf r ≡ rowsParts (rowsNeeded (now (message .entry))) ⌝ }
 {
-    match reader::message::rows_needed(message) {
+    match reader::message::rows_needed(Edition::New, message) {
         Answer::Refused(number, place) => packed(number, place, 0),
         Answer::Done(rows) => packed(0, 0, rows),
     }
@@ -42,7 +43,7 @@ pub fn rows_needed(message: &[u8]) -> u64
 pub fn slot(message: &[u8], table: usize, leaf: usize, number: usize) -> u64
     ensures { λ r. ⌜ partsOf r ≡ slotParts (firstAndWidth (panelSlot (now (message .entry)) table leaf number)) ⌝ }
 {
-    match reader::message::rows_needed(message) {
+    match reader::message::rows_needed(Edition::New, message) {
         Answer::Refused(refusal, _) => return packed(refusal, 0, 0),
         Answer::Done(_) => {}
     }

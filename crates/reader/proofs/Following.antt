@@ -4,6 +4,7 @@ use mathlib.Core.Path.{_≡_, refl, sym, _∙_}
 use mathlib.Core.List.{List}
 use native.Mathlib.Omega.{arith}
 use lib.ListN.{length, getD}
+use Rattle.format.specs.Grammars.{Grammar}
 use Rattle.format.specs.Limits.{limit}
 use Rattle.format.specs.Outcome.{Parsed, done}
 use Rattle.format.specs.Marks.{Opening, bracket, brace, opens, closes, isScalar, types, integers}
@@ -121,15 +122,15 @@ plus-small (Next end row more) start at high lent k h l b w = omega arith
 
 -- ---- a plain container in an array
 
-module _ (m : List ℕ) (lent levels at row : ℕ) where
-  begun : (inner : Opening) → at < length m → getD m at 0 ≡ opens inner → valueBy m lent (nested m lent levels) at row ≡ nested m lent levels inner at row
+module _ (m : List ℕ) (lent : ℕ) (grammar : Grammar) (levels at row : ℕ) where
+  begun : (inner : Opening) → at < length m → getD m at 0 ≡ opens inner → valueBy m lent grammar (nested m lent grammar levels) at row ≡ nested m lent grammar levels inner at row
   unfolding opens class isScalar types integers among valueOn if_then_else_
-  begun bracket h e = value-begins m lent _ at row opensBracket h (rw e)
-  begun brace h e = value-begins m lent _ at row opensBrace h (rw e)
+  begun bracket h e = value-begins m lent grammar _ at row opensBracket h (rw e)
+  begun brace h e = value-begins m lent grammar _ at row opensBrace h (rw e)
 
   pub opened-plain : (outer inner : Opening) → OpensPlain m lent levels outer inner at row
-      → memberOf m lent levels outer at row ≡ closed inner at (at + 1) 1 (until m (length m) (skip m) (closes inner) (memberOf m lent (levels - 1) inner) (at + 1) (row + 1))
+      → memberOf m lent grammar levels outer at row ≡ closed inner at (at + 1) 1 (until m (length m) (skip m) (closes inner) (memberOf m lent grammar (levels - 1) inner) (at + 1) (row + 1))
   unfolding memberOf items
   opened-plain outer inner o =
       let t = o .there in
-      rw (o .within) (begun inner (omega arith) (o .opening) ∙ nested-plain m lent at row inner levels (o .deep) (o .left) (o .there) (o .notTyped) (o .notCounted))
+      rw (o .within) (begun inner (omega arith) (o .opening) ∙ nested-plain m lent grammar at row inner levels (o .deep) (o .left) (o .there) (o .notTyped) (o .notCounted))

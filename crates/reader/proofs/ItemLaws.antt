@@ -4,6 +4,7 @@ use mathlib.Core.Path.{_≡_, refl, sym, ap, _∙_}
 use mathlib.Core.Bool.{Bool, true, false, true≢false, false≢true}
 use mathlib.Core.List.{List}
 use native.Mathlib.Omega.{arith}
+use Rattle.format.specs.Grammars.{Grammar}
 use Rattle.format.specs.Outcome.{Parsed, fault}
 use Rattle.format.specs.Marks.{Opening, openingOf}
 use Rattle.format.specs.Tokens.{Forest, none, size, _⊕_, members}
@@ -64,12 +65,12 @@ opened-here o row words opening at e =
 
 -- ---- a member, by what its container opens with
 
-module _ (m : List ℕ) (lent at row : ℕ) where
+module _ (m : List ℕ) (lent : ℕ) (grammar : Grammar) (at row : ℕ) where
   abbrev pub member : Bool → (Opening → Reader) → Parsed Forest
-  member b nested = items m lent (openingOf b) (valueBy m lent nested) at row
+  member b nested = items m lent (openingOf b) (valueBy m lent grammar nested) at row
 
   pub member-plain : (b : Bool) → b ≡ false → (r : Item) (before after : List ℕ)
-      → ItemMeets r (λ nested. valueBy m lent nested at row) row before after → ItemMeets r (member b) row before after
+      → ItemMeets r (λ nested. valueBy m lent grammar nested at row) row before after → ItemMeets r (member b) row before after
   unfolding items
   member-plain true e r before after h = absurd (true≢false e)
   member-plain false e r before after h = h
@@ -80,11 +81,11 @@ module _ (m : List ℕ) (lent at row : ℕ) where
   member-key-fault false e n p h nested = absurd (false≢true e)
 
   pub member-keyed : (b : Bool) → b ≡ true → (r : Item) (next row′ : ℕ) (before mid after : List ℕ) → Laid (key m lent at row) row 0 before mid next row′
-      → ItemMeets r (λ nested. valueBy m lent nested (skip m next) row′) row′ mid after → ItemMeets r (member b) row before after
+      → ItemMeets r (λ nested. valueBy m lent grammar nested (skip m next) row′) row′ mid after → ItemMeets r (member b) row before after
   unfolding items spaced
   member-keyed true e r next row′ before mid after l h =
-      keyed-meets r (member true) (λ nested. valueBy m lent nested (skip m next) row′) _ row next row′ before mid after l
-      (λ nested. rw (l .took) (seq-read (key m lent) (spaced m (valueBy m lent nested)) at row next (l .forest) (l .read))) h
+      keyed-meets r (member true) (λ nested. valueBy m lent grammar nested (skip m next) row′) _ row next row′ before mid after l
+      (λ nested. rw (l .took) (seq-read (key m lent) (spaced m (valueBy m lent grammar nested)) at row next (l .forest) (l .read))) h
   member-keyed false e r next row′ before mid after l h = absurd (false≢true e)
 
 -- what reads the container that opens, reads the member

@@ -5,6 +5,7 @@ use mathlib.Core.List.{List}
 use native.Mathlib.Omega.{arith}
 use lib.ListN.{length}
 use borrow.Author.Tests.{le-leb, lt-leb, eq-eqb, ne-eqb}
+use Rattle.format.specs.Grammars.{Grammar}
 use Rattle.format.specs.Outcome.{Outcome, fault, done, _>>=_, _>>_, guard}
 use Rattle.format.specs.Limits.{limit, valueLevels}
 use Rattle.format.specs.Refusals.{messageTooLong, bytesAfter}
@@ -21,27 +22,27 @@ use Rattle.tokens.specs.Answers.{Laid}
 use Rattle.reader.specs.Values.{memberOf}
 use Rattle.reader.specs.Message.{Lies, frontWords}
 
-module _ (m : List ℕ) (lent : ℕ) where
-  pub read-long : limit < length m → read m lent ≡ fault messageTooLong 0
+module _ (m : List ℕ) (lent : ℕ) (grammar : Grammar) where
+  pub read-long : limit < length m → read m lent grammar ≡ fault messageTooLong 0
   unfolding read guard _>>_
   read-long h = rw (lt-leb _ _ h)
 
   module _ (short : length m ≤ limit) where
-    pub read-fault : (n p : ℕ) → memberOf m lent valueLevels bracket (skip m 0) 0 ≡ fault n p → read m lent ≡ fault n p
+    pub read-fault : (n p : ℕ) → memberOf m lent grammar valueLevels bracket (skip m 0) 0 ≡ fault n p → read m lent grammar ≡ fault n p
     unfolding read guard _>>_ _>>=_ memberOf items
     read-fault n p e = rw (le-leb _ _ short, e)
 
-    module _ (f : Forest) (next : ℕ) (value : memberOf m lent valueLevels bracket (skip m 0) 0 ≡ done (f, next)) where
-      pub read-more : (skip m next ≡ length m → ⊥) → read m lent ≡ fault bytesAfter (skip m next)
+    module _ (f : Forest) (next : ℕ) (value : memberOf m lent grammar valueLevels bracket (skip m 0) 0 ≡ done (f, next)) where
+      pub read-more : (skip m next ≡ length m → ⊥) → read m lent grammar ≡ fault bytesAfter (skip m next)
       unfolding read guard _>>_ _>>=_ memberOf items
       read-more h = rw (le-leb _ _ short, value, ne-eqb _ _ h)
 
-      pub read-done : skip m next ≡ length m → read m lent ≡ done f
+      pub read-done : skip m next ≡ length m → read m lent grammar ≡ done f
       unfolding read guard _>>_ _>>=_ memberOf items
       read-done h = rw (le-leb _ _ short, value, eq-eqb _ _ h)
 
-    pub read-lies : (next row : ℕ) (before after : List ℕ) → Laid (memberOf m lent valueLevels bracket (skip m 0) 0) 0 1 before after next row
-        → skip m next ≡ length m → Lies (read m lent) before after row
+    pub read-lies : (next row : ℕ) (before after : List ℕ) → Laid (memberOf m lent grammar valueLevels bracket (skip m 0) 0) 0 1 before after next row
+        → skip m next ≡ length m → Lies (read m lent grammar) before after row
     unfolding allRows
     read-lies next row before after l h =
         record { forest = l .forest; read = read-done (l .forest) next (l .read) h; took = omega (arith, l .took); lie = l .lie }

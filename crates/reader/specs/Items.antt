@@ -1,11 +1,13 @@
 -- What the answers of the reader's items stand for.
 use Prim.Native.Nat.{ℕ, _+_, _≤_, _<_}
 use mathlib.Core.Path.{_≡_}
+use mathlib.Core.Bool.{_&&_}
 use mathlib.Core.List.{List}
 use lib.Dec.{eqb}
+use Rattle.format.specs.Grammars.{Grammar}
 use Rattle.format.specs.Conditions.{if_then_else_}
 use Rattle.format.specs.Outcome.{Parsed, fault}
-use Rattle.format.specs.Marks.{Opening, openingOf, isScalar, 'H', 'S', '[', left-brace}
+use Rattle.format.specs.Marks.{Opening, openingOf, isScalar, 'E', 'H', 'S', '[', left-brace}
 use Rattle.format.specs.Tokens.{Forest, size, members}
 use Rattle.format.specs.Rows.{rows}
 use Rattle.format.specs.Sequences.{Reader}
@@ -14,21 +16,22 @@ use Rattle.tokens.specs.Answers.{onto, Laid, Ends}
 use Rattle.tokens.specs.declared.Step.{Step}
 use Rattle.tokens.specs.declared.Step.the-variants.{Fault as Stopped, Next as Went}
 use Rattle.reader.specs.declared.items.Class.{Class}
-use Rattle.reader.specs.declared.items.Class.the-variants.{Scalar, Text, HighPrecision, Bracket, Brace, Other}
+use Rattle.reader.specs.declared.items.Class.the-variants.{Scalar, Text, HighPrecision, Bracket, Brace, Extension, Other}
 use Rattle.reader.specs.declared.items.Item.{Item}
 use Rattle.reader.specs.declared.items.Item.the-variants.{Fault, Next, Opens}
 
 -- what a mark begins
 pub data Begins : Type 0 where
-  scalar text highPrecision opensBracket opensBrace other : Begins
+  scalar text highPrecision opensBracket opensBrace extension other : Begins
 
-unfoldable pub class : ℕ → Begins
-class mark =
+unfoldable pub class : Grammar → ℕ → Begins
+class grammar mark =
     if isScalar mark then scalar else
     if eqb mark 'S' then text else
     if eqb mark 'H' then highPrecision else
     if eqb mark '[' then opensBracket else
-    if eqb mark left-brace then opensBrace else other
+    if eqb mark left-brace then opensBrace else
+    if grammar .extensions && eqb mark 'E' then extension else other
 
 abbrev pub classOf : Class → Begins
 classOf Scalar = scalar
@@ -36,6 +39,7 @@ classOf Text = text
 classOf HighPrecision = highPrecision
 classOf Bracket = opensBracket
 classOf Brace = opensBrace
+classOf Extension = extension
 classOf Other = other
 
 abbrev pub itemOf : Step → Item

@@ -3,6 +3,7 @@ use Prim.Native.Nat.{ℕ, _+_, _-_, _≤_, _<_}
 use mathlib.Core.Path.{_≡_}
 use mathlib.Core.List.{List}
 use lib.ListN.{length, getD}
+use Rattle.format.specs.Grammars.{Grammar}
 use Rattle.format.specs.Outcome.{fault}
 use Rattle.format.specs.Limits.{limit}
 use Rattle.format.specs.Marks.{Opening, bracket, opens, closes, '#', '$'}
@@ -20,18 +21,18 @@ use Rattle.reader.specs.declared.values.Header.{Header}
 use Rattle.reader.specs.declared.values.Header.the-variants.{Fault, Typed, Counted, Plain}
 
 -- a member of a container, with so many levels left for what nests in it
-unfoldable pub memberOf : List ℕ → ℕ → ℕ → Opening → Reader
-memberOf m lent levels opening = items m lent opening (valueBy m lent (nested m lent levels))
+unfoldable pub memberOf : List ℕ → ℕ → Grammar → ℕ → Opening → Reader
+memberOf m lent grammar levels opening = items m lent opening (valueBy m lent grammar (nested m lent grammar levels))
 
--- ---- what follows an opening mark, whichever it is
+-- ---- what follows an opening mark, whichever it is, in any grammar
 
 abbrev pub HeaderMeets : Header → List ℕ → ℕ → ℕ → ℕ → ℕ → Type 0
-HeaderMeets (Fault n p) m lent levels at row = (o : Opening) → nested m lent levels o at row ≡ fault n p
-HeaderMeets Typed m lent levels at row = (o : Opening) → nested m lent levels o at row ≡ typed m lent o at row
-HeaderMeets (Counted n start) m lent levels at row = (o : Opening)
-    → nested m lent levels o at row ≡ closed o at start 0 (repeat n (spaced m (memberOf m lent (levels - 1) o)) start (row + 1))
-HeaderMeets Plain m lent levels at row = (o : Opening)
-    → nested m lent levels o at row ≡ closed o at (at + 1) 1 (until m (length m) (skip m) (closes o) (memberOf m lent (levels - 1) o) (at + 1) (row + 1))
+HeaderMeets (Fault n p) m lent levels at row = (grammar : Grammar) (o : Opening) → nested m lent grammar levels o at row ≡ fault n p
+HeaderMeets Typed m lent levels at row = (grammar : Grammar) (o : Opening) → nested m lent grammar levels o at row ≡ typed m lent o at row
+HeaderMeets (Counted n start) m lent levels at row = (grammar : Grammar) (o : Opening)
+    → nested m lent grammar levels o at row ≡ closed o at start 0 (repeat n (spaced m (memberOf m lent grammar (levels - 1) o)) start (row + 1))
+HeaderMeets Plain m lent levels at row = (grammar : Grammar) (o : Opening)
+    → nested m lent grammar levels o at row ≡ closed o at (at + 1) 1 (until m (length m) (skip m) (closes o) (memberOf m lent grammar (levels - 1) o) (at + 1) (row + 1))
 
 -- a row is left, and a level; the count is within the limit, and the first member's place within the message
 abbrev pub HeaderWithin : Header → ℕ → ℕ → ℕ → ℕ → ℕ → ℕ → Type 0
@@ -43,9 +44,9 @@ HeaderWithin Plain low high lent levels at row = (row < lent) × (0 < levels) ×
 -- ---- members up to the closing mark
 
 -- what is read of them, with any fuel that the message can't use up
-abbrev pub PlainMeets : Listed → List ℕ → ℕ → ℕ → Opening → ℕ → ℕ → List ℕ → List ℕ → Type 0
-PlainMeets r m lent levels opening start first before after = (fuel : ℕ) → length m ≤ start + fuel
-    → ListMeets r (until m fuel (skip m) (closes opening) (memberOf m lent levels opening) start first) first before after
+abbrev pub PlainMeets : Listed → List ℕ → ℕ → Grammar → ℕ → Opening → ℕ → ℕ → List ℕ → List ℕ → Type 0
+PlainMeets r m lent grammar levels opening start first before after = (fuel : ℕ) → length m ≤ start + fuel
+    → ListMeets r (until m fuel (skip m) (closes opening) (memberOf m lent grammar levels opening) start first) first before after
 
 -- ---- members that follow
 

@@ -1,6 +1,7 @@
 // A whole message: one value, with any number of `N` before and after.
 use crate::values::member;
 use format::answers::Answer;
+use format::answers::Edition;
 use format::limits::LIMIT;
 use format::limits::VALUE_LEVELS;
 use rows::clear;
@@ -10,14 +11,13 @@ use scan::noops::skip;
 use tokens::Step;
 ghost use mathlib.Core.Path.{_≡_};
 ghost use lib.ListN.{length};
-ghost use Rattle.format.specs.Read.{read as readOf, readInto, rowsUsed, wordsAfter};
-ghost use Rattle.format.specs.Panel.{readWhole, rowsNeeded};
-ghost use Rattle.format.specs.Answers.{answered};
+ghost use Rattle.format.specs.Read.{read as readOf, readWhole, readInto, rowsUsed, wordsAfter};
+ghost use Rattle.format.specs.Answers.{answered, grammarOf};
 ghost use Rattle.reader.specs.Message.{WholeMeets, WholeWithin, frontWords};
 
 // The message, with so many rows lent, of which those are stored that the table has.
-fn read_core(message: &[u8], rows: &mut [u32], lent: usize) -> Step
-    ensures meets { λ r. ⌜ WholeMeets r (readOf (now (message .entry)) lent) (now (rows .entry)) (now (rows .exit)) ⌝ }
+fn read_core(edition: Edition, message: &[u8], rows: &mut [u32], lent: usize) -> Step
+    ensures meets { λ r. ⌜ WholeMeets r (readOf (now (message .entry)) lent (grammarOf edition)) (now (rows .entry)) (now (rows .exit)) ⌝ }
     ensures bounds { λ r. ⌜ WholeWithin r lent ⌝ }
 {
     let end = message.len();
@@ -25,7 +25,7 @@ fn read_core(message: &[u8], rows: &mut [u32], lent: usize) -> Step
         return Step::Fault(1, 0);
     }
     let at = skip(message, 0);
-    match member(message, rows, lent, VALUE_LEVELS, false, at, 0) {
+    match member(edition, message, rows, lent, VALUE_LEVELS, false, at, 0) {
         Step::Fault(n, p) => Step::Fault(n, p),
         Step::Next(next, row) => {
             let after = skip(message, next);
@@ -38,12 +38,12 @@ fn read_core(message: &[u8], rows: &mut [u32], lent: usize) -> Step
 }
 
 // Reads a message into lent rows: the rows used, or a refusal's number and place. What isn't filled is zero, on refusal all.
-pub fn read(message: &[u8], rows: &mut [u32]) -> Answer
-    ensures answer { λ r. ⌜ answered r ≡ rowsUsed (readInto (now (message .entry)) (now (rows .entry))) ⌝ }
-    ensures words { λ _. ⌜ now (rows .exit) ≡ wordsAfter (length (now (rows .entry))) (readInto (now (message .entry)) (now (rows .entry))) ⌝ }
+pub fn read(edition: Edition, message: &[u8], rows: &mut [u32]) -> Answer
+    ensures answer { λ r. ⌜ answered r ≡ rowsUsed (readInto (now (message .entry)) (now (rows .entry)) (grammarOf edition)) ⌝ }
+    ensures words { λ _. ⌜ now (rows .exit) ≡ wordsAfter (length (now (rows .entry))) (readInto (now (message .entry)) (now (rows .entry)) (grammarOf edition)) ⌝ }
 {
     let lent = count(rows);
-    match read_core(message, rows, lent) {
+    match read_core(edition, message, rows, lent) {
         Step::Fault(n, p) => {
             clear(rows);
             Answer::Refused(n, p)
@@ -56,11 +56,11 @@ pub fn read(message: &[u8], rows: &mut [u32]) -> Answer
 }
 
 // The rows that a message needs, or a refusal's number and place, with no table: rows count as enough.
-pub fn rows_needed(message: &[u8]) -> Answer
-    ensures { λ r. ⌜ answered r ≡ rowsNeeded (now (message .entry)) ⌝ }
+pub fn rows_needed(edition: Edition, message: &[u8]) -> Answer
+    ensures { λ r. ⌜ answered r ≡ rowsUsed (readWhole (now (message .entry)) (grammarOf edition)) ⌝ }
 {
     let mut none = [0u32; 0];
-    match read_core(message, &mut none, message.len()) {
+    match read_core(edition, message, &mut none, message.len()) {
         Step::Fault(n, p) => Answer::Refused(n, p),
         Step::Next(_, row) => Answer::Done(row),
     }
@@ -68,12 +68,12 @@ pub fn rows_needed(message: &[u8]) -> Answer
 
 // The rows that a message needs, or a refusal's number and place; the table holds the first of them, as many as it has room for. What
 // isn't filled is zero, on refusal all.
-pub fn read_front(message: &[u8], rows: &mut [u32]) -> Answer
-    ensures answer { λ r. ⌜ answered r ≡ rowsNeeded (now (message .entry)) ⌝ }
-    ensures words { λ _. ⌜ now (rows .exit) ≡ frontWords (length (now (rows .entry))) (readWhole (now (message .entry))) ⌝ }
+pub fn read_front(edition: Edition, message: &[u8], rows: &mut [u32]) -> Answer
+    ensures answer { λ r. ⌜ answered r ≡ rowsUsed (readWhole (now (message .entry)) (grammarOf edition)) ⌝ }
+    ensures words { λ _. ⌜ now (rows .exit) ≡ frontWords (length (now (rows .entry))) (readWhole (now (message .entry)) (grammarOf edition)) ⌝ }
 {
     clear(rows);
-    match read_core(message, rows, message.len()) {
+    match read_core(edition, message, rows, message.len()) {
         Step::Fault(n, p) => {
             clear(rows);
             Answer::Refused(n, p)

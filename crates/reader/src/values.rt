@@ -3,6 +3,7 @@ use crate::items::Item;
 use crate::items::member_start;
 use containers::lists::Listed;
 use containers::lists::close;
+use format::answers::Edition;
 use format::marks::ARRAY;
 use format::marks::COUNT;
 use format::marks::OBJECT;
@@ -24,6 +25,7 @@ ghost use lib.Dec.{eqb};
 ghost use Rattle.format.specs.Limits.{limit};
 ghost use Rattle.format.specs.Marks.{openingOf, opens, closes, left-brace};
 ghost use Rattle.format.specs.Sequences.{spaced, repeat};
+ghost use Rattle.format.specs.Answers.{grammarOf};
 ghost use Rattle.format.specs.Read.{nested};
 ghost use Rattle.tokens.specs.Answers.{Meets, Here, Within};
 ghost use Rattle.containers.specs.Lists.{ListMeets, ListWithin};
@@ -70,6 +72,7 @@ pub fn header_at(message: &[u8], lent: usize, levels: usize, at: usize, row: usi
 
 // A member, with so many levels left for what nests in it.
 pub fn member(
+    edition: Edition,
     message: &[u8],
     rows: &mut [u32],
     lent: usize,
@@ -79,13 +82,15 @@ pub fn member(
     row: usize,
 ) -> Step
     requires { ⌜ Here (now message) lent at row ⌝ }
-    ensures meets { λ r. ⌜ Meets r (memberOf (now (message .entry)) lent levels (openingOf brace) at row) row 1 (now (rows .entry)) (now (rows .exit)) ⌝ }
+    ensures meets { λ r. ⌜ Meets r (memberOf (now (message .entry)) lent (grammarOf edition) levels (openingOf brace) at row) row 1 (now (rows .entry)) (now (rows .exit)) ⌝ }
     ensures bounds { λ r. ⌜ Within r (at + 1) (length (now (message .entry))) lent ⌝ }
 {
-    match member_start(message, rows, lent, brace, at, row) {
+    match member_start(edition, message, rows, lent, brace, at, row) {
         Item::Fault(n, p) => Step::Fault(n, p),
         Item::Next(next, after) => Step::Next(next, after),
-        Item::Opens(b, here, below) => { container(message, rows, lent, levels, b, here, below) }
+        Item::Opens(b, here, below) => {
+            container(edition, message, rows, lent, levels, b, here, below)
+        }
     }
 }
 
@@ -162,6 +167,7 @@ fn plus(count: usize, list: Listed) -> Listed
 
 // n members, from `start` and `first` on.
 pub fn counted(
+    edition: Edition,
     message: &[u8],
     rows: &mut [u32],
     lent: usize,
@@ -172,22 +178,21 @@ pub fn counted(
     first: usize,
 ) -> Listed
     requires { ⌜ Here (now message) lent start first × (n ≤ limit) ⌝ }
-    ensures meets { λ r. ⌜ ListMeets r (repeat n (spaced (now (message .entry)) (memberOf (now (message .entry)) lent levels (openingOf brace))) start first) first (now (rows .entry)) (now (rows .exit)) ⌝ }
+    ensures meets { λ r. ⌜ ListMeets r (repeat n (spaced (now (message .entry)) (memberOf (now (message .entry)) lent (grammarOf edition) levels (openingOf brace))) start first) first (now (rows .entry)) (now (rows .exit)) ⌝ }
     ensures bounds { λ r. ⌜ ListWithin r start (length (now (message .entry))) lent ⌝ }
 {
     let mut at = start;
     let mut row = first;
     let mut count = 0;
     while count < n {
-        let most = n - count;
-        let run = several(message, rows, lent, brace, most, at, row);
+        let run = several(message, rows, lent, brace, n - count, at, row);
         if 0 < run.count {
             at = run.at;
             row = run.row;
             count += run.count;
         } else {
             let here = skip(message, at);
-            match member(message, rows, lent, levels, brace, here, row) {
+            match member(edition, message, rows, lent, levels, brace, here, row) {
                 Step::Fault(number, place) => {
                     return Listed::Fault(number, place);
                 }
@@ -204,6 +209,7 @@ pub fn counted(
 
 // The member at `at`, or it and those of its sort after it.
 fn following(
+    edition: Edition,
     message: &[u8],
     rows: &mut [u32],
     lent: usize,
@@ -213,25 +219,35 @@ fn following(
     row: usize,
 ) -> Listed
     requires { ⌜ Here (now message) lent at row × Begins (now message) (closes (openingOf brace)) at ⌝ }
-    ensures meets { λ r. ⌜ FollowingMeets r (now (message .entry)) (closes (openingOf brace)) (memberOf (now (message .entry)) lent levels (openingOf brace)) at row (now (rows .entry)) (now (rows .exit)) ⌝ }
+    ensures meets { λ r. ⌜ FollowingMeets r (now (message .entry)) (closes (openingOf brace)) (memberOf (now (message .entry)) lent (grammarOf edition) levels (openingOf brace)) at row (now (rows .entry)) (now (rows .exit)) ⌝ }
     ensures bounds { λ r. ⌜ FollowingWithin r at (length (now (message .entry))) lent ⌝ }
 {
     if opens_plain(message, lent, levels, brace, at, row) {
         let inner = message[at] == OBJECT;
         let start = at + 1;
         let below = row + 1;
-        let list = held(message, rows, lent, levels - 1, inner, start, below);
+        let list = held(
+            edition,
+            message,
+            rows,
+            lent,
+            levels - 1,
+            inner,
+            start,
+            below,
+        );
         return one(close(rows, inner, at, row, start, 1, list));
     }
     let run = several(message, rows, lent, brace, message.len(), at, row);
     if 0 < run.count {
         return Listed::Next(run.at, run.row, run.count);
     }
-    one(member(message, rows, lent, levels, brace, at, row))
+    one(member(edition, message, rows, lent, levels, brace, at, row))
 }
 
 // Members up to the closing mark, from `start` and `first` on.
 pub fn plain(
+    edition: Edition,
     message: &[u8],
     rows: &mut [u32],
     lent: usize,
@@ -241,7 +257,7 @@ pub fn plain(
     first: usize,
 ) -> Listed
     requires { ⌜ Here (now message) lent start first ⌝ }
-    ensures meets { λ r. ⌜ PlainMeets r (now (message .entry)) lent levels (openingOf brace) start first (now (rows .entry)) (now (rows .exit)) ⌝ }
+    ensures meets { λ r. ⌜ PlainMeets r (now (message .entry)) lent (grammarOf edition) levels (openingOf brace) start first (now (rows .entry)) (now (rows .exit)) ⌝ }
     ensures bounds { λ r. ⌜ ListWithin r start (length (now (message .entry)) - 1) lent ⌝ }
     ensures few { λ r. ⌜ EachByte r start ⌝ }
 {
@@ -258,7 +274,7 @@ pub fn plain(
         if message[here] == closing {
             return Listed::Next(here, row, count);
         }
-        match following(message, rows, lent, levels, brace, here, row) {
+        match following(edition, message, rows, lent, levels, brace, here, row) {
             Listed::Fault(number, place) => {
                 return Listed::Fault(number, place);
             }
@@ -273,6 +289,7 @@ pub fn plain(
 
 // The same, where most have members of one sort only: these are read first, unless the first is a container.
 fn held(
+    edition: Edition,
     message: &[u8],
     rows: &mut [u32],
     lent: usize,
@@ -282,12 +299,12 @@ fn held(
     first: usize,
 ) -> Listed
     requires { ⌜ Here (now message) lent start first ⌝ }
-    ensures meets { λ r. ⌜ PlainMeets r (now (message .entry)) lent levels (openingOf brace) start first (now (rows .entry)) (now (rows .exit)) ⌝ }
+    ensures meets { λ r. ⌜ PlainMeets r (now (message .entry)) lent (grammarOf edition) levels (openingOf brace) start first (now (rows .entry)) (now (rows .exit)) ⌝ }
     ensures bounds { λ r. ⌜ ListWithin r start (length (now (message .entry)) - 1) lent ⌝ }
     ensures few { λ r. ⌜ EachByte r start ⌝ }
 {
     if is_opening(byte_at(message, start)) {
-        return plain(message, rows, lent, levels, brace, start, first);
+        return plain(edition, message, rows, lent, levels, brace, start, first);
     }
     let end = message.len();
     let run = several(message, rows, lent, brace, end, start, first);
@@ -297,12 +314,13 @@ fn held(
     if stands(message, at, closing_mark(brace)) {
         return Listed::Next(at, row, count);
     }
-    let list = plain(message, rows, lent, levels, brace, at, row);
+    let list = plain(edition, message, rows, lent, levels, brace, at, row);
     plus(count, list)
 }
 
 // The container at `at`, with so many levels left.
 pub fn container(
+    edition: Edition,
     message: &[u8],
     rows: &mut [u32],
     lent: usize,
@@ -312,7 +330,7 @@ pub fn container(
     row: usize,
 ) -> Step
     requires { ⌜ Here (now message) lent at row × (at < length (now message)) ⌝ }
-    ensures meets { λ r. ⌜ Meets r (nested (now (message .entry)) lent levels (openingOf brace) at row) row 1 (now (rows .entry)) (now (rows .exit)) ⌝ }
+    ensures meets { λ r. ⌜ Meets r (nested (now (message .entry)) lent (grammarOf edition) levels (openingOf brace) at row) row 1 (now (rows .entry)) (now (rows .exit)) ⌝ }
     ensures bounds { λ r. ⌜ Within r (at + 1) (length (now (message .entry))) lent ⌝ }
 {
     let below = row + 1;
@@ -320,12 +338,14 @@ pub fn container(
         Header::Fault(n, p) => Step::Fault(n, p),
         Header::Typed => typed(message, rows, lent, brace, at, row),
         Header::Counted(n, start) => {
-            let list = counted(message, rows, lent, levels - 1, brace, n, start, below);
+            let left = levels - 1;
+            let list = counted(edition, message, rows, lent, left, brace, n, start, below);
             close(rows, brace, at, row, start, 0, list)
         }
         Header::Plain => {
             let start = at + 1;
-            let list = plain(message, rows, lent, levels - 1, brace, start, below);
+            let left = levels - 1;
+            let list = plain(edition, message, rows, lent, left, brace, start, below);
             close(rows, brace, at, row, start, 1, list)
         }
     }

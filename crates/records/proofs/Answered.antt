@@ -13,7 +13,9 @@ use Rattle.format.specs.Tokens.{Token, Forest, none, node, size, belowFirst}
 use Rattle.format.specs.Schemas.{tableSchema}
 use Rattle.format.specs.Containers.{table}
 use Rattle.format.specs.Answers.{firstAndWidth}
-use Rattle.format.specs.Panel.{tables, pick, readWhole, panelSlot}
+use Rattle.format.specs.Grammars.{new}
+use Rattle.format.specs.Read.{readWhole}
+use Rattle.format.specs.Panel.{tables, pick, panelSlot}
 use Rattle.laws.proofs.Holds.{of-done}
 use Rattle.laws.proofs.Bounds.{schema-bounded}
 use Rattle.contents.proofs.Groups.{opened-there}
@@ -29,7 +31,7 @@ use Rattle.records.proofs.TableSlots.{TableRead, table-read, slot-found
 
 -- the panel's slot is that of the table that it picks
 pub panel-slot : (m : List ℕ) (tableNumber leafNumber recordNumber : ℕ)
-    → panelSlot m tableNumber leafNumber recordNumber ≡ (readWhole m >>= λ f. pick (tables 0 f) tableNumber >>= λ t. slotOf t leafNumber recordNumber)
+    → panelSlot m tableNumber leafNumber recordNumber ≡ (readWhole m new >>= λ f. pick (tables 0 f) tableNumber >>= λ t. slotOf t leafNumber recordNumber)
 unfolding panelSlot slotOf
 panel-slot m tableNumber leafNumber recordNumber = refl
 

@@ -13,8 +13,9 @@ use Rattle.format.specs.Records.{atOffset, placed}
 use Rattle.format.specs.Rows.{Row, rowOf, rows, allRows}
 use Rattle.format.specs.Sequences.{Reader, until, spaced}
 use Rattle.format.specs.Containers.{container, stored, table, counted, plain, typed, containerBy, items}
-use Rattle.format.specs.Read.{nested, read}
-use Rattle.format.specs.Panel.{tables, readWhole}
+use Rattle.format.specs.Read.{nested, read, readWhole}
+use Rattle.format.specs.Grammars.{Grammar}
+use Rattle.format.specs.Panel.{tables}
 use Rattle.format.proofs.Forests.{length-rows}
 use Rattle.laws.proofs.Holds.{Holds, refused, holds, bind-law, then-law, if-law, any-law, weaken, of-done}
 use Rattle.laws.proofs.Schemas.{Members, noMore, key, leaf, group, groupKind, Gives, group-one, tableSchema-gives}
@@ -86,14 +87,15 @@ module _ (m : List ℕ) (lent : ℕ) where
       (λ _. bind-law (any-law _) λ n _. bind-law (repeat-kept flat-kept (n .0) _ (λ next below. p o _ below) _ _) λ r h. holds (over (container-no-table o) h nothing))
       (λ _. bind-law (until-flat _ _ _ _ (p o) _ _) λ r h. holds (over (container-no-table o) h nothing))
 
-  nested-flat : (levels : ℕ) (o : Opening) → Gives Flat (nested m lent levels o)
-  unfolding nested
-  nested-flat zero o at row = refused λ _. tt
-  nested-flat (suc levels) o at row = container-flat _ (items-kept m lent flat-kept _ (nested-flat levels)) o at row
+  module _ (grammar : Grammar) where
+    nested-flat : (levels : ℕ) (o : Opening) → Gives Flat (nested m lent grammar levels o)
+    unfolding nested
+    nested-flat zero o at row = refused λ _. tt
+    nested-flat (suc levels) o at row = container-flat _ (items-kept m lent grammar flat-kept _ (nested-flat levels)) o at row
 
-  read-flat : Holds (Unit {0}) Flat (read m lent)
-  unfolding read
-  read-flat = then-law (any-law _) λ _. bind-law (value-kept m lent flat-kept _ (nested-flat _) _ _) λ r h. then-law (any-law _) λ _. holds h
+    read-flat : Holds (Unit {0}) Flat (read m lent grammar)
+    unfolding read
+    read-flat = then-law (any-law _) λ _. bind-law (value-kept m lent grammar flat-kept _ (nested-flat _) _ _) λ r h. then-law (any-law _) λ _. holds h
 
 -- ---- the rows of kind 8
 
@@ -125,6 +127,6 @@ counted-rows (aTable {below = below} {after = after} e u r) n =
     rw (e, rest-of n below after, none-of-kind u (suc n), ← counted-rows r (suc n + size below))
 
 -- The tables of an accepted message are its rows of kind 8, in their order.
-pub tables-are-rows : (m : List ℕ) (f : Forest) → readWhole m ≡ done f → map (λ t. t .row) (tables 0 f) ≡ ofKind tableKind 0 (allRows f)
+pub tables-are-rows : (m : List ℕ) (grammar : Grammar) (f : Forest) → readWhole m grammar ≡ done f → map (λ t. t .row) (tables 0 f) ≡ ofKind tableKind 0 (allRows f)
 unfolding readWhole allRows
-tables-are-rows m f e = counted-rows (of-done f (read-flat m (length m)) e) 0
+tables-are-rows m grammar f e = counted-rows (of-done f (read-flat m (length m) grammar) e) 0

@@ -5,6 +5,7 @@ use mathlib.Core.Bool.{Bool, true, false}
 use mathlib.Core.List.{List}
 use native.Mathlib.Omega.{arith}
 use lib.ListN.{length}
+use Rattle.format.specs.Grammars.{Grammar}
 use Rattle.format.specs.Conditions.{if_then_else_}
 use Rattle.format.specs.Outcome.{Outcome, Parsed, fault, done, _>>=_}
 use Rattle.format.specs.Marks.{Opening, bracket, brace}
@@ -63,35 +64,34 @@ unfolding if_then_else_
 if-same true o x y a h e = e
 if-same false o x y a h e = h e
 
-none-read : {A C : Type 0} (c d : Bool) (n p : ℕ) (a : A) → (if c then fault 0 0 else (if d then fault 0 0 else fault n p)) ≡ done a → C
+never-same : {A : Type 0} (c : Bool) (o x y : Outcome A) (a : A) → (x ≡ done a → y ≡ done a) → (if c then fault 0 0 else x) ≡ done a → (if c then o else y) ≡ done a
 unfolding if_then_else_
-none-read true d n p a e = no-fault (fault 0 0) 0 0 a refl e
-none-read false true n p a e = no-fault (fault 0 0) 0 0 a refl e
-none-read false false n p a e = no-fault (fault n p) n p a refl e
+never-same true o x y a h e = no-fault (fault 0 0) 0 0 a refl e
+never-same false o x y a h e = h e
 
-module _ (m : List ℕ) (lent : ℕ) (nested : Opening → Reader) where
-  value-same : (at row : ℕ) (r : Forest × ℕ) → valueBy m lent never at row ≡ done r → valueBy m lent nested at row ≡ done r
+module _ (m : List ℕ) (lent : ℕ) (grammar : Grammar) (nested : Opening → Reader) where
+  value-same : (at row : ℕ) (r : Forest × ℕ) → valueBy m lent grammar never at row ≡ done r → valueBy m lent grammar nested at row ≡ done r
   unfolding valueBy
-  value-same at row r = bind-same (byte m at) _ _ r λ mark. if-same _ _ _ _ r (if-same _ _ _ _ r (if-same _ _ _ _ r (none-read _ _ _ _ r)))
+  value-same at row r = bind-same (byte m at) _ _ r λ mark. if-same _ _ _ _ r (if-same _ _ _ _ r (if-same _ _ _ _ r (never-same _ _ _ _ r (never-same _ _ _ _ r λ e. e))))
 
-  items-same : (o : Opening) (at row : ℕ) (r : Forest × ℕ) → items m lent o (valueBy m lent never) at row ≡ done r → items m lent o (valueBy m lent nested) at row ≡ done r
+  items-same : (o : Opening) (at row : ℕ) (r : Forest × ℕ) → items m lent o (valueBy m lent grammar never) at row ≡ done r → items m lent o (valueBy m lent grammar nested) at row ≡ done r
   unfolding items spaced _⨾_
   items-same bracket at row r = value-same at row r
   items-same brace at row r = bind-same (key m lent at row) _ _ r λ f. first-same _ _ _ r (value-same (skip m (f .1)) (row + size (f .0)))
 
 -- ---- a member
 
-module _ (m : List ℕ) (opening : Opening) (at row : ℕ) where
+module _ (m : List ℕ) (grammar : Grammar) (opening : Opening) (at row : ℕ) where
   abbrev pub member : (Opening → Reader) → Parsed Forest
-  member nested = items m (length m) opening (valueBy m (length m) nested) at row
+  member nested = items m (length m) opening (valueBy m (length m) grammar nested) at row
 
   -- it is read whole
   pub member-past : (next row′ left : ℕ) (before after : List ℕ) → ((nested : Opening → Reader) → Laid (member nested) row 1 before after next row′)
       → (nested : Opening → Reader) → Walks (Past next row′ left) m row left (member nested)
   member-past next row′ left before after h nested f end e =
       let l = h never in
-      let q = parts (sym (items-same m (length m) nested opening at row _ (l .read)) ∙ e) in
-      let t = of-done (l .forest, next) (items-kept m (length m) tableless-kept never (λ o at row. refused λ _. tt) opening at row) (l .read) in
+      let q = parts (sym (items-same m (length m) grammar nested opening at row _ (l .read)) ∙ e) in
+      let t = of-done (l .forest, next) (items-kept m (length m) grammar tableless-kept never (λ o at row. refused λ _. tt) opening at row) (l .read) in
       rw (← q .0, ← q .1) (passed-none m row left (l .forest) next row′ t (l .took))
 
   -- a container opens, after a key in an object
@@ -100,5 +100,5 @@ module _ (m : List ℕ) (opening : Opening) (at row : ℕ) where
   unfolding onto _>>=_
   member-opens r left before after o here row′ h nested w =
       let blank : Opening → Reader = λ _ at _. done (none, at) in
-      let t = of-done (h .forest ⊕ none, here) (items-kept m (length m) tableless-kept blank (λ o at row. holds empty) opening at row) (h .is blank) in
+      let t = of-done (h .forest ⊕ none, here) (items-kept m (length m) grammar tableless-kept blank (λ o at row. holds empty) opening at row) (h .is blank) in
       rw (h .is nested) (onto-walks r m row row′ left (h .forest) (nested o here row′) (rw (append-none (h .forest)) at t) (h .took) w)

@@ -4,6 +4,7 @@ use mathlib.Core.Path.{_≡_, refl}
 use mathlib.Core.List.{List, [], append-nil}
 use lib.ListN.{length}
 use borrow.Author.Tests.{leb-true}
+use Rattle.format.specs.Grammars.{new}
 use Rattle.format.specs.Outcome.{Outcome, fault, done}
 use Rattle.format.specs.Refusals.{notThere}
 use Rattle.format.specs.Limits.{limit, valueLevels}
@@ -11,8 +12,8 @@ use Rattle.format.specs.Marks.{bracket}
 use Rattle.format.specs.Tokens.{Forest}
 use Rattle.format.specs.Bytes.{skip}
 use Rattle.format.specs.Containers.{items}
-use Rattle.format.specs.Read.{read}
-use Rattle.format.specs.Panel.{tables, pick, readWhole}
+use Rattle.format.specs.Read.{read, readWhole}
+use Rattle.format.specs.Panel.{tables, pick}
 use Rattle.laws.proofs.Holds.{Holds, refused, holds, bind-law, then-law, guard-law, any-law, of-done}
 use Rattle.reader.specs.Values.{memberOf}
 use Rattle.seek.specs.Walks.{Passed}
@@ -22,13 +23,13 @@ use Rattle.seek.proofs.Picking.{pick-past}
 pub record Value (m : List ℕ) (f : Forest) : Type 0 where
   pub short : length m ≤ limit
   pub next : ℕ
-  pub value : memberOf m (length m) valueLevels bracket (skip m 0) 0 ≡ done (f, next)
+  pub value : memberOf m (length m) new valueLevels bracket (skip m 0) 0 ≡ done (f, next)
 
 itself : {A : Type 0} (o : Outcome A) → Holds (Unit {0}) (λ a. o ≡ done a) o
 itself (fault n p) = refused λ _. tt
 itself (done a) = holds refl
 
-pub accepted : (m : List ℕ) (f : Forest) → readWhole m ≡ done f → Value m f
+pub accepted : (m : List ℕ) (f : Forest) → readWhole m new ≡ done f → Value m f
 unfolding readWhole read memberOf items
 accepted m f e = of-done {P = Value m} f (then-law (guard-law _ _ _ refl) λ h. bind-law (itself _) λ r q. then-law (any-law _) λ _.
     holds (record { short = leb-true (length m) limit h; next = r .1; value = q })) e

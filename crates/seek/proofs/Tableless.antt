@@ -9,6 +9,8 @@ use Rattle.format.specs.Marks.{Opening, bracket, brace}
 use Rattle.format.specs.Tokens.{Kind, Token, table as tableKind, isKind, Forest, none, node, alone, size, _⊕_}
 use Rattle.format.specs.Sequences.{Reader, _⨾_, repeat, spaced}
 use Rattle.format.specs.Scalars.{scalar, unmarked, text, key}
+use Rattle.format.specs.Extensions.{extension}
+use Rattle.format.specs.Grammars.{Grammar}
 use Rattle.format.specs.Containers.{containerKind, container, stored, packed, table, counted, typedAs, items}
 use Rattle.format.specs.Read.{valueBy}
 use Rattle.format.specs.Panel.{tables}
@@ -89,6 +91,11 @@ module _ (m : List ℕ) (lent : ℕ) where
   unfolding key isKind
   key-tableless at row = bind-law (any-law _) λ _ _. then-law (any-law _) λ _. bind-law (any-law _) λ _ _. bind-law (any-law _) λ _ _. holds (alone-tableless _ refl)
 
+  extension-tableless : Gives Tableless (extension m lent)
+  unfolding extension isKind
+  extension-tableless at row = then-law (any-law _) λ _. bind-law (any-law _) λ _ _. bind-law (any-law _) λ _ _. then-law (any-law _) λ _.
+      bind-law (any-law _) λ _ _. holds (alone-tableless _ refl)
+
   packed-tableless : (mark from : ℕ) → Gives Tableless (packed m lent mark from)
   unfolding packed stored isKind
   packed-tableless mark from at row = bind-law (shape-gives m lent true from (row + 1)) λ n s.
@@ -107,24 +114,25 @@ module _ (m : List ℕ) (lent : ℕ) where
       object-tableless _ (at + 4) (seq-kept tableless-kept (key m lent) (unmarked m lent type) key-tableless (unmarked-tableless type)) at row
 
   -- a member, if it holds of what nests in it
-  module _ {P : Forest → Type 0} (kept : Kept P) (nested : Opening → Reader) (p : (o : Opening) → Gives P (nested o)) where
+  module _ (grammar : Grammar) {P : Forest → Type 0} (kept : Kept P) (nested : Opening → Reader) (p : (o : Opening) → Gives P (nested o)) where
     pub plainly : {o : Parsed Forest} → Holds (Unit {0}) (λ r. Tableless (r .0)) o → Holds (Unit {0}) (λ r. P (r .0)) o
     plainly h = weaken (λ r q. kept .tableless q) h
 
-    pub value-kept : Gives P (valueBy m lent nested)
+    pub value-kept : Gives P (valueBy m lent grammar nested)
     unfolding valueBy isKind
     value-kept at row = bind-law (any-law _) λ mark _.
         if-law _ (λ _. plainly (scalar-tableless mark (at + 1) at row)) λ _.
         if-law _ (λ _. plainly (text-tableless _ _ refl at row)) λ _.
         if-law _ (λ _. plainly (text-tableless _ _ refl at row)) λ _.
         if-law _ (λ _. p bracket at row) λ _.
-        if-law _ (λ _. p brace at row) λ _. refused λ _. tt
+        if-law _ (λ _. p brace at row) λ _.
+        if-law _ (λ _. plainly (extension-tableless at row)) λ _. refused λ _. tt
 
-    pub items-kept : (o : Opening) → Gives P (items m lent o (valueBy m lent nested))
+    pub items-kept : (o : Opening) → Gives P (items m lent o (valueBy m lent grammar nested))
     unfolding items spaced
     items-kept bracket at row = value-kept at row
     items-kept brace at row =
-        seq-kept kept (key m lent) (spaced m (valueBy m lent nested)) (λ next below. plainly (key-tableless next below)) (λ next below. value-kept _ below) at row
+        seq-kept kept (key m lent) (spaced m (valueBy m lent grammar nested)) (λ next below. plainly (key-tableless next below)) (λ next below. value-kept _ below) at row
 
   pub table-gives : (o : Opening) (at row : ℕ) → Holds (Unit {0}) (λ r. OneTable at (r .0)) (table m lent o at row)
   unfolding table stored isKind

@@ -8,7 +8,8 @@ use scan::noops::skip;
 ghost use mathlib.Core.Path.{_≡_};
 ghost use Rattle.format.specs.Outcome.{done};
 ghost use Rattle.format.specs.Tokens.{Forest};
-ghost use Rattle.format.specs.Panel.{readWhole};
+ghost use Rattle.format.specs.Grammars.{new};
+ghost use Rattle.format.specs.Read.{readWhole};
 ghost use Rattle.seek.specs.Tables.{TableMeets};
 
 mod nest;
@@ -26,7 +27,7 @@ pub enum TableFound {
 
 // The table with this number, from 0. Of a refused message nothing is said.
 pub fn table_at(message: &[u8], number: usize) -> TableFound
-    ensures { λ r. ⌜ ((f : Forest) → readWhole (now (message .entry)) ≡ done f → TableMeets r (now (message .entry)) f number) ⌝ }
+    ensures { λ r. ⌜ ((f : Forest) → readWhole (now (message .entry)) new ≡ done f → TableMeets r (now (message .entry)) f number) ⌝ }
 {
     if (LIMIT as usize) < message.len() {
         return TableFound::Missing;

@@ -1,6 +1,7 @@
 // The walk: members one after another in a loop, and what nests in them by a call, with the levels left as the falling number.
 use crate::steps::Sought;
 use crate::steps::typed_at;
+use format::answers::Edition;
 use format::marks::closing_mark;
 use reader::items::Item;
 use reader::items::member_start;
@@ -16,6 +17,7 @@ ghost use Rattle.format.specs.Marks.{openingOf, closes};
 ghost use Rattle.format.specs.Tokens.{Forest};
 ghost use Rattle.format.specs.Bytes.{skip as skipIn};
 ghost use Rattle.format.specs.Sequences.{spaced, repeat, until};
+ghost use Rattle.format.specs.Grammars.{new};
 ghost use Rattle.format.specs.Read.{nested};
 ghost use Rattle.tokens.specs.Answers.{Here};
 ghost use Rattle.reader.specs.Values.{memberOf};
@@ -31,12 +33,12 @@ pub fn member(
     left: usize,
 ) -> Sought
     requires { ⌜ Here (now message) (length (now message)) at row ⌝ }
-    ensures meets { λ r. ⌜ Walks r (now (message .entry)) row left (memberOf (now (message .entry)) (length (now (message .entry))) levels (openingOf brace) at row) ⌝ }
+    ensures meets { λ r. ⌜ Walks r (now (message .entry)) row left (memberOf (now (message .entry)) (length (now (message .entry))) new levels (openingOf brace) at row) ⌝ }
     ensures bounds { λ r. ⌜ SoughtWithin r (at + 1) (length (now (message .entry))) ⌝ }
 {
     let end = message.len();
     let mut none = [0u32; 0];
-    match member_start(message, &mut none, end, brace, at, row) {
+    match member_start(Edition::New, message, &mut none, end, brace, at, row) {
         Item::Fault(_, _) => Sought::Refused,
         Item::Next(next, after) => Sought::Past(next, after, left),
         Item::Opens(b, here, below) => container(message, levels, b, here, below, left),
@@ -54,7 +56,7 @@ fn counted(
     number: usize,
 ) -> Sought
     requires { ⌜ Here (now message) (length (now message)) start first × (n ≤ limit) ⌝ }
-    ensures meets { λ r. ⌜ Walks r (now (message .entry)) first number (repeat n (spaced (now (message .entry)) (memberOf (now (message .entry)) (length (now (message .entry))) levels (openingOf brace))) start first) ⌝ }
+    ensures meets { λ r. ⌜ Walks r (now (message .entry)) first number (repeat n (spaced (now (message .entry)) (memberOf (now (message .entry)) (length (now (message .entry))) new levels (openingOf brace))) start first) ⌝ }
     ensures bounds { λ r. ⌜ SoughtWithin r start (length (now (message .entry))) ⌝ }
 {
     let mut at = start;
@@ -85,7 +87,7 @@ fn plain(
     number: usize,
 ) -> Sought
     requires { ⌜ Here (now message) (length (now message)) start first ⌝ }
-    ensures meets { λ r. ⌜ ((f : Forest) (end : ℕ) → until (now (message .entry)) (length (now (message .entry))) (skipIn (now (message .entry))) (closes (openingOf brace)) (memberOf (now (message .entry)) (length (now (message .entry))) levels (openingOf brace)) start first ≡ done (f, end) → Comes r (now (message .entry)) first number f (end + 1)) ⌝ }
+    ensures meets { λ r. ⌜ ((f : Forest) (end : ℕ) → until (now (message .entry)) (length (now (message .entry))) (skipIn (now (message .entry))) (closes (openingOf brace)) (memberOf (now (message .entry)) (length (now (message .entry))) new levels (openingOf brace)) start first ≡ done (f, end) → Comes r (now (message .entry)) first number f (end + 1)) ⌝ }
     ensures bounds { λ r. ⌜ SoughtWithin r start (length (now (message .entry))) ⌝ }
 {
     let end = message.len();
@@ -121,7 +123,7 @@ fn container(
     left: usize,
 ) -> Sought
     requires { ⌜ Here (now message) (length (now message)) at row × (at < length (now message)) ⌝ }
-    ensures meets { λ r. ⌜ Walks r (now (message .entry)) row left (nested (now (message .entry)) (length (now (message .entry))) levels (openingOf brace) at row) ⌝ }
+    ensures meets { λ r. ⌜ Walks r (now (message .entry)) row left (nested (now (message .entry)) (length (now (message .entry))) new levels (openingOf brace) at row) ⌝ }
     ensures bounds { λ r. ⌜ SoughtWithin r (at + 1) (length (now (message .entry))) ⌝ }
 {
     let end = message.len();

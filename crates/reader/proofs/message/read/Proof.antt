@@ -38,7 +38,7 @@ returns : tie.Need-returns
 unfolding readInto
 returns c =
     let q = rw (c .before .before .before .before .before .before .before .before .before .before .before .count .ensures) at (rw (c .before .before .before .before .before .n .given .1) at (c .before .before .before .before .before .before .before .before .before .read-core .ensures .0)) in
-    let k : length (c .before .before .before .before .before .before .before .before .before .read-core .last .1 .0) ≡ length (c .before .before .before .before .before .before .before .before .before .before .before .before .before .before .before .args .rows .now) = omega arith in
+    let k : length (c .before .before .before .before .before .before .before .before .before .read-core .last .1 .1 .0) ≡ length (c .before .before .before .before .before .before .before .before .before .before .before .before .before .before .before .args .rows .now) = omega arith in
     (refused _ _ _ q, c .before .before .clear .ensures ∙ rw k (words-zero _ _ _ _ q))
 
 same-length-2 : tie.Need-same-length-2

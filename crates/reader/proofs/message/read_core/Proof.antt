@@ -11,7 +11,7 @@ cast-if1 c =
 
 returns : tie.Need-returns
 returns c =
-    (read-long _ _ (c .if1 .taken), tt)
+    (read-long _ _ _ (c .if1 .taken), tt)
 
 skip-requires : tie.Need-skip-requires
 skip-requires c κs =
@@ -42,7 +42,7 @@ returns-2 c =
     let e = c .before .before .before .next .given .1 in
     let l = rw (c .before .before .before .before .before .before .before .before .before .skip .ensures .0) at (rw e at (c .before .before .before .before .before .before .before .member .ensures .0)) in
     let s = c .before .skip2 .ensures in
-    (rw (s .0) (read-more _ _ (c .before .before .before .before .before .before .before .before .before .before .if1 .left) (l .forest) _ (l .read) (rw (← s .0) (λ q. omega (arith, q, c .if2 .taken)))), tt)
+    (rw (s .0) (read-more _ _ _ (c .before .before .before .before .before .before .before .before .before .before .if1 .left) (l .forest) _ (l .read) (rw (← s .0) (λ q. omega (arith, q, c .if2 .taken)))), tt)
 
 same-length-2 : tie.Need-same-length-2
 same-length-2 c =
@@ -51,7 +51,7 @@ same-length-2 c =
 returns-3 : tie.Need-returns-3
 returns-3 c =
     let e = c .before .n .given .1 in
-    (read-fault _ _ (c .before .before .before .before .before .before .before .before .if1 .left) _ _ (rw (c .before .before .before .before .before .before .before .skip .ensures .0) at (rw e at (c .before .before .before .before .before .member .ensures .0))), tt)
+    (read-fault _ _ _ (c .before .before .before .before .before .before .before .before .if1 .left) _ _ (rw (c .before .before .before .before .before .before .before .skip .ensures .0) at (rw e at (c .before .before .before .before .before .member .ensures .0))), tt)
 
 same-length-3 : tie.Need-same-length-3
 same-length-3 c =
@@ -63,7 +63,7 @@ returns-4 c =
     let l = rw (c .before .before .before .before .before .before .before .before .before .skip .ensures .0) at (rw e at (c .before .before .before .before .before .before .before .member .ensures .0)) in
     let w = rw e at (c .before .before .before .before .before .before .before .member .ensures .1) in
     let s = c .before .skip2 .ensures in
-    (read-lies _ _ (c .before .before .before .before .before .before .before .before .before .before .if1 .left) _ _ _ _ l (rw (← s .0) (omega arith)), w .rowLent)
+    (read-lies _ _ _ (c .before .before .before .before .before .before .before .before .before .before .if1 .left) _ _ _ _ l (rw (← s .0) (omega arith)), w .rowLent)
 
 pub read-core-spec : {M : Type 1} → statement M
 read-core-spec = tie.close (tie.spec cast-if1 returns skip-requires member-requires enum-known-n enum-known-next skip-requires-2 same-length returns-2 same-length-2 returns-3 same-length-3 returns-4)

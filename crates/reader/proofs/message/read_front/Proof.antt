@@ -3,7 +3,7 @@ use mathlib.Core.Path.{_≡_, _∙_}
 use native.Mathlib.Omega.{arith}
 use borrow.Author.Needs.{needs}
 use lib.ListN.{length}
-use Rattle.format.specs.Panel.{rowsNeeded, readWhole}
+use Rattle.format.specs.Read.{readWhole}
 use Rattle.reader.proofs.MessageCases.{used, refused, front-filled, front-zero}
 use Rattle.reader.proofs.message.read_front.Statement.{statement}
 use Rattle.reader.proofs.message.read_front.Tie as tie
@@ -27,17 +27,17 @@ same-length : tie.Need-same-length
 same-length c = omega arith
 
 returns : tie.Need-returns
-unfolding rowsNeeded readWhole
+unfolding readWhole
 returns c =
     let q = rw (c .before .before .before .before .before .n .given .1) at (c .before .before .before .before .before .before .before .before .before .read-core .ensures .0) in
-    let k : length (c .before .before .before .before .before .before .before .before .before .read-core .last .1 .0) ≡ length (c .before .before .before .before .before .before .before .before .before .before .before .before .before .before .before .before .before .args .rows .now) = omega arith in
+    let k : length (c .before .before .before .before .before .before .before .before .before .read-core .last .1 .1 .0) ≡ length (c .before .before .before .before .before .before .before .before .before .before .before .before .before .before .before .before .before .args .rows .now) = omega arith in
     (refused _ _ _ q, c .before .before .clear2 .ensures ∙ rw k (front-zero _ _ _ _ q))
 
 same-length-2 : tie.Need-same-length-2
 same-length-2 c = omega arith
 
 returns-2 : tie.Need-returns-2
-unfolding rowsNeeded readWhole
+unfolding readWhole
 returns-2 c =
     let l = rw (c .before .before .before .before .before .before .before .before .before .clear .ensures) at (rw (c .before .row .given .1) at (c .before .before .before .before .before .read-core .ensures .0)) in
     (used _ _ _ _ l, front-filled _ _ _ _ l)

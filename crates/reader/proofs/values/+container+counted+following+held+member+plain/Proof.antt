@@ -5,6 +5,7 @@ use native.Mathlib.Omega.{arith}
 use native.Mathlib.Nat.{sub-zero}
 use lib.ListN.{length}
 use borrow.Author.Needs.{needs}
+use Rattle.format.specs.Answers.{grammarOf}
 use Rattle.format.specs.Marks.{openingOf, closes}
 use Rattle.format.specs.Bytes.{skip}
 use Rattle.format.specs.Sequences.{spaced}
@@ -54,22 +55,22 @@ use Rattle.reader.proofs.values.+container+counted+following+held+membe
 use Rattle.reader.proofs.values.+container+counted+following+held+member+plain.Tie.{close}
 
 abbrev μ-container : Measures 2 container-kinds.ps ℕ
-μ-container κs a = 5 * a .1 .1 .1 .0
+μ-container κs a = 5 * a .1 .1 .1 .1 .0
 
 abbrev μ-counted : Measures 2 counted-kinds.ps ℕ
-μ-counted κs a = 5 * a .1 .1 .1 .0 + 3
+μ-counted κs a = 5 * a .1 .1 .1 .1 .0 + 3
 
 abbrev μ-following : Measures 2 following-kinds.ps ℕ
-μ-following κs a = 5 * a .1 .1 .1 .0 + 2
+μ-following κs a = 5 * a .1 .1 .1 .1 .0 + 2
 
 abbrev μ-held : Measures 2 held-kinds.ps ℕ
-μ-held κs a = 5 * a .1 .1 .1 .0 + 4
+μ-held κs a = 5 * a .1 .1 .1 .1 .0 + 4
 
 abbrev μ-member : Measures 2 member-kinds.ps ℕ
-μ-member κs a = 5 * a .1 .1 .1 .0 + 1
+μ-member κs a = 5 * a .1 .1 .1 .1 .0 + 1
 
 abbrev μ-plain : Measures 2 plain-kinds.ps ℕ
-μ-plain κs a = 5 * a .1 .1 .1 .0 + 3
+μ-plain κs a = 5 * a .1 .1 .1 .1 .0 + 3
 
 abbrev container-at : ℕ → In 2 container-kinds.ps
 container-at t = and 2 container-kinds.ps (is 2 container-kinds.ps μ-container t) container.Pre
@@ -148,9 +149,9 @@ container-typed-requires t c κs =
 container-enum-known-n-2 : (t : ℕ) → container-lts.Need-enum-known-n-2 (container-calls t) (container-at t) container.Post
 container-enum-known-n-2 t c = search needs
 
-container-sub-counted : (t : ℕ) → container-lts.Need-sub-counted (container-calls t) (container-at t) container.Post
-container-sub-counted t c =
-    let w = rw (c .before .before .n2 .given .1) at (c .before .before .before .before .header-at .ensures .1) in omega arith
+container-sub-left : (t : ℕ) → container-lts.Need-sub-left (container-calls t) (container-at t) container.Post
+container-sub-left t c =
+    let w = rw (c .before .n2 .given .1) at (c .before .before .before .header-at .ensures .1) in omega arith
 
 container-counted-requires : (t : ℕ) → container-lts.Need-counted-requires (container-calls t) (container-at t) container.Post
 container-counted-requires t c κs =
@@ -169,9 +170,9 @@ container-add-start : (t : ℕ) → container-lts.Need-add-start (container-call
 container-add-start t c =
     omega arith
 
-container-sub-plain : (t : ℕ) → container-lts.Need-sub-plain (container-calls t) (container-at t) container.Post
-container-sub-plain t c =
-    let w = rw (c .before .enum-told2 .given .1) at (c .before .before .before .header-at .ensures .1) in omega arith
+container-sub-left-2 : (t : ℕ) → container-lts.Need-sub-left-2 (container-calls t) (container-at t) container.Post
+container-sub-left-2 t c =
+    let w = rw (c .enum-told2 .given .1) at (c .before .before .header-at .ensures .1) in omega arith
 
 container-plain-requires : (t : ℕ) → container-lts.Need-plain-requires (container-calls t) (container-at t) container.Post
 container-plain-requires t c κs =
@@ -185,7 +186,7 @@ container-close-requires-2 t c κs =
 
 container-returns : (t : ℕ) → container-lts.Need-returns (container-calls t) (container-at t) container.Post
 container-returns t c =
-    let h = rw (c .before .n .given .1) at (c .before .before .before .header-at .ensures .0) in (h _, tt)
+    let h = rw (c .before .n .given .1) at (c .before .before .before .header-at .ensures .0) in (h _ _, tt)
 
 container-same-length : (t : ℕ) → container-lts.Need-same-length (container-calls t) (container-at t) container.Post
 container-same-length t c = omega arith
@@ -194,7 +195,7 @@ container-returns-2 : (t : ℕ) → container-lts.Need-returns-2 (container-call
 container-returns-2 t c =
     let h = rw (c .before .before .before .before .enum-told .given .1) at (c .before .before .before .before .before .before .header-at .ensures .0) in
     let v = c .before .before .typed in
-    (rw (h (openingOf (c .before .before .before .before .before .before .before .before .before .args .brace))) (v .ensures .0), v .ensures .1)
+    (rw (h _ (openingOf (c .before .before .before .before .before .before .before .before .before .args .brace))) (v .ensures .0), v .ensures .1)
 
 container-same-length-2 : (t : ℕ) → container-lts.Need-same-length-2 (container-calls t) (container-at t) container.Post
 container-same-length-2 t c = omega arith
@@ -206,7 +207,7 @@ container-returns-3 t c =
     let w = rw e at (c .before .before .before .before .before .before .before .before .before .before .before .header-at .ensures .1) in
     let l = c .before .before .before .before .before .before .counted in
     let z = c .before .before .close in
-    (rw (h (openingOf (c .before .before .before .before .before .before .before .before .before .before .before .before .before .before .args .brace))) (z .ensures .0 _ _ (l .ensures .0)), within-from (z .result) _ _ _ _ (omega arith) (z .ensures .1 _ _ (rw (sub-zero (length (c .before .before .before .before .before .before .before .before .before .before .before .before .before .before .args .message .now))) (l .ensures .1)) (omega arith)))
+    (rw (h _ (openingOf (c .before .before .before .before .before .before .before .before .before .before .before .before .before .before .args .brace))) (z .ensures .0 _ _ (l .ensures .0)), within-from (z .result) _ _ _ _ (omega arith) (z .ensures .1 _ _ (rw (sub-zero (length (c .before .before .before .before .before .before .before .before .before .before .before .before .before .before .args .message .now))) (l .ensures .1)) (omega arith)))
 
 container-same-length-3 : (t : ℕ) → container-lts.Need-same-length-3 (container-calls t) (container-at t) container.Post
 container-same-length-3 t c = omega arith
@@ -218,22 +219,22 @@ container-returns-4 t c =
     let w = rw e at (c .before .before .before .before .before .before .before .before .before .before .header-at .ensures .1) in
     let l = c .before .before .before .before .before .before .plain in
     let z = c .before .before .close2 in
-    (rw (h (openingOf (c .before .before .before .before .before .before .before .before .before .before .before .before .before .args .brace))) (z .ensures .0 _ _ (l .ensures .0 _ (omega arith))), within-from (z .result) _ _ _ _ (omega arith) (z .ensures .1 _ _ (l .ensures .1 .0) (omega (arith, c .before .before .before .before .before .before .before .before .before .before .before .before .before .pre .1 .1))))
+    (rw (h _ (openingOf (c .before .before .before .before .before .before .before .before .before .before .before .before .before .args .brace))) (z .ensures .0 _ _ (l .ensures .0 _ (omega arith))), within-from (z .result) _ _ _ _ (omega arith) (z .ensures .1 _ _ (l .ensures .1 .0) (omega (arith, c .before .before .before .before .before .before .before .before .before .before .before .before .before .pre .1 .1))))
 
 abbrev counted-Inv-loop : counted-lts.InvT-loop
-counted-Inv-loop message rows₀ lent levels brace n start first at₀ row₀ count₀ rows at row count =
+counted-Inv-loop edition message rows₀ lent levels brace n start first at₀ row₀ count₀ rows at row count =
     Going message lent start at row count
     × (length rows ≡ length rows₀)
-    × Some n (spaced message (memberOf message lent levels (openingOf brace))) start first rows₀ at row count rows
+    × Some n (spaced message (memberOf message lent (grammarOf edition) levels (openingOf brace))) start first rows₀ at row count rows
 
 abbrev counted-μ-loop : counted-lts.MeasureT-loop
-counted-μ-loop message rows₀ lent levels brace n start first at₀ row₀ count₀ rows at row count = n - count
+counted-μ-loop edition message rows₀ lent levels brace n start first at₀ row₀ count₀ rows at row count = n - count
 
 counted-loop-holds : (t : ℕ) → counted-lts.Need-loop-holds (counted-calls t) (counted-at t) counted.Post counted-Inv-loop counted-μ-loop
 counted-loop-holds t c = (omega arith, refl, some-start _ _ _ _ _)
 
-counted-sub-most : (t : ℕ) → counted-lts.Need-sub-most (counted-calls t) (counted-at t) counted.Post counted-Inv-loop counted-μ-loop
-counted-sub-most t c = omega arith
+counted-sub-several : (t : ℕ) → counted-lts.Need-sub-several (counted-calls t) (counted-at t) counted.Post counted-Inv-loop counted-μ-loop
+counted-sub-several t c = omega arith
 
 counted-several-requires : (t : ℕ) → counted-lts.Need-several-requires (counted-calls t) (counted-at t) counted.Post counted-Inv-loop counted-μ-loop
 counted-several-requires t c κs = omega arith
@@ -250,7 +251,7 @@ counted-loop-again t c =
     let i = c .before .before .before .before .before .before .before .before .loop .inv in
     let v = c .before .before .before .before .before .several in
     let e = v .ensures .1 in
-    (omega arith, v .kept .1 .0 ∙ i .1, some-passed _ _ _ _ _ _ _ _ _ _ _ _ _ _ _ (i .2) (v .ensures .0 (nested (c .before .before .before .before .before .before .before .before .before .before .before .args .message .now) (c .before .before .before .before .before .before .before .before .before .before .before .args .lent) (c .before .before .before .before .before .before .before .before .before .before .before .args .levels))) (omega arith))
+    (omega arith, v .kept .1 .0 ∙ i .1, some-passed _ _ _ _ _ _ _ _ _ _ _ _ _ _ _ (i .2) (v .ensures .0 (grammarOf (c .before .before .before .before .before .before .before .before .before .before .before .args .edition)) (nested (c .before .before .before .before .before .before .before .before .before .before .before .args .message .now) (c .before .before .before .before .before .before .before .before .before .before .before .args .lent) (grammarOf (c .before .before .before .before .before .before .before .before .before .before .before .args .edition)) (c .before .before .before .before .before .before .before .before .before .before .before .args .levels))) (omega arith))
 
 counted-skip-requires : (t : ℕ) → counted-lts.Need-skip-requires (counted-calls t) (counted-at t) counted.Post counted-Inv-loop counted-μ-loop
 counted-skip-requires t c κs = search needs
@@ -284,12 +285,12 @@ unfolding spaced
 counted-loop-again-2 t c =
     let i = c .before .before .before .before .before .before .before .before .before .before .before .before .before .before .before .loop .inv in
     let r = c .before .before .before .before .before .before .before .before .before .before .before .before .several in
-    let still = r .ensures .0 (nested (c .before .before .before .before .before .before .before .before .before .before .before .before .before .before .before .before .before .before .args .message .now) (c .before .before .before .before .before .before .before .before .before .before .before .before .before .before .before .before .before .before .args .lent) (c .before .before .before .before .before .before .before .before .before .before .before .before .before .before .before .before .before .before .args .levels)) .still (omega (arith, c .before .before .before .before .before .before .before .before .if1 .left)) in
+    let still = r .ensures .0 (grammarOf (c .before .before .before .before .before .before .before .before .before .before .before .before .before .before .before .before .before .before .args .edition)) (nested (c .before .before .before .before .before .before .before .before .before .before .before .before .before .before .before .before .before .before .args .message .now) (c .before .before .before .before .before .before .before .before .before .before .before .before .before .before .before .before .before .before .args .lent) (grammarOf (c .before .before .before .before .before .before .before .before .before .before .before .before .before .before .before .before .before .before .args .edition)) (c .before .before .before .before .before .before .before .before .before .before .before .before .before .before .before .before .before .before .args .levels)) .still (omega (arith, c .before .before .before .before .before .before .before .before .if1 .left)) in
     let s = c .before .before .before .before .before .before .before .skip .ensures in
     let v = c .before .before .before .before .before .member in
     let e = c .before .next .given .1 in
     let w = rw e at (v .ensures .1) in
-    (omega arith, v .kept .1 .0 ∙ r .kept .1 .0 ∙ i .1, some-step _ _ _ _ _ (i .2) _ _ _ (c .before .before .before .before .before .before .before .before .before .before .before .before .before .before .loop-test .taken) (rw (still .2) at (rw e at (rw (s .0) at (v .ensures .0)))))
+    (omega arith, v .kept .1 .1 .0 ∙ r .kept .1 .0 ∙ i .1, some-step _ _ _ _ _ (i .2) _ _ _ (c .before .before .before .before .before .before .before .before .before .before .before .before .before .before .loop-test .taken) (rw (still .2) at (rw e at (rw (s .0) at (v .ensures .0)))))
 
 counted-same-length-2 : (t : ℕ) → counted-lts.Need-same-length-2 (counted-calls t) (counted-at t) counted.Post counted-Inv-loop counted-μ-loop
 counted-same-length-2 t c = omega arith
@@ -332,7 +333,7 @@ following-returns t c =
     let l = c .before .before .before .before .before .before .before .held in
     let z = c .before .before .before .close in
     let w = z .ensures .1 _ _ (l .ensures .1 .0) (omega (arith, o .there)) in
-    rw (c .one .ensures) (one-meets _ _ _ _ _ _ _ (z .result) _ _ (c .before .before .before .before .before .before .before .before .before .before .before .before .before .before .pre .1 .1) w (rw (opened-plain _ _ _ _ _ _ _ o) (z .ensures .0 _ _ (l .ensures .0 _ (omega arith)))), one-within (z .result) _ _ _ w)
+    rw (c .one .ensures) (one-meets _ _ _ _ _ _ _ (z .result) _ _ (c .before .before .before .before .before .before .before .before .before .before .before .before .before .before .pre .1 .1) w (rw (opened-plain _ _ _ _ _ _ _ _ o) (z .ensures .0 _ _ (l .ensures .0 _ (omega arith)))), one-within (z .result) _ _ _ w)
 
 following-several-requires : (t : ℕ) → following-lts.Need-several-requires (following-calls t) (following-at t) following.Post
 following-several-requires t c κs = omega arith
@@ -345,7 +346,7 @@ unfolding memberOf
 following-returns-2 t c =
     let v = c .before .before .before .before .several in
     let e = v .ensures .1 in
-    (v .ensures .0 (nested (c .before .before .before .before .before .before .before .before .before .before .args .message .now) (c .before .before .before .before .before .before .before .before .before .before .args .lent) (c .before .before .before .before .before .before .before .before .before .before .args .levels)), omega arith)
+    (v .ensures .0 (grammarOf (c .before .before .before .before .before .before .before .before .before .before .args .edition)) (nested (c .before .before .before .before .before .before .before .before .before .before .args .message .now) (c .before .before .before .before .before .before .before .before .before .before .args .lent) (grammarOf (c .before .before .before .before .before .before .before .before .before .before .args .edition)) (c .before .before .before .before .before .before .before .before .before .before .args .levels)), omega arith)
 
 following-member-requires : (t : ℕ) → following-lts.Need-member-requires (following-calls t) (following-at t) following.Post
 following-member-requires t c κs = (omega arith, omega arith)
@@ -359,7 +360,7 @@ following-same-length-3 t c = omega arith
 following-returns-3 : (t : ℕ) → following-lts.Need-returns-3 (following-calls t) (following-at t) following.Post
 following-returns-3 t c =
     let r = c .before .before .before .before .before .before .before .before .before .several in
-    let still = r .ensures .0 (nested (c .before .before .before .before .before .before .before .before .before .before .before .before .before .before .before .args .message .now) (c .before .before .before .before .before .before .before .before .before .before .before .before .before .before .before .args .lent) (c .before .before .before .before .before .before .before .before .before .before .before .before .before .before .before .args .levels)) .still (omega (arith, c .before .before .before .before .before .if2 .left)) in
+    let still = r .ensures .0 (grammarOf (c .before .before .before .before .before .before .before .before .before .before .before .before .before .before .before .args .edition)) (nested (c .before .before .before .before .before .before .before .before .before .before .before .before .before .before .before .args .message .now) (c .before .before .before .before .before .before .before .before .before .before .before .before .before .before .before .args .lent) (grammarOf (c .before .before .before .before .before .before .before .before .before .before .before .before .before .before .before .args .edition)) (c .before .before .before .before .before .before .before .before .before .before .before .before .before .before .before .args .levels)) .still (omega (arith, c .before .before .before .before .before .if2 .left)) in
     let v = c .before .before .before .member in
     rw (c .one2 .ensures) (one-meets _ _ _ _ _ _ _ (v .result) _ _ (c .before .before .before .before .before .before .before .before .before .before .before .before .before .before .before .pre .1 .1) (v .ensures .1) (rw (still .2) at (v .ensures .0)), one-within (v .result) _ _ _ (v .ensures .1))
 
@@ -395,7 +396,7 @@ unfolding memberOf
 held-returns-2 t c =
     let v = c .before .before .before .before .before .several in
     let e = v .ensures .1 in
-    let p = v .ensures .0 (nested (c .before .before .before .before .before .before .before .before .before .before .before .before .args .message .now) (c .before .before .before .before .before .before .before .before .before .before .before .before .args .lent) (c .before .before .before .before .before .before .before .before .before .before .before .before .args .levels)) in
+    let p = v .ensures .0 (grammarOf (c .before .before .before .before .before .before .before .before .before .before .before .before .args .edition)) (nested (c .before .before .before .before .before .before .before .before .before .before .before .before .args .message .now) (c .before .before .before .before .before .before .before .before .before .before .before .before .args .lent) (grammarOf (c .before .before .before .before .before .before .before .before .before .before .before .before .args .edition)) (c .before .before .before .before .before .before .before .before .before .before .before .before .args .levels)) in
     let a = stands-there _ _ _ (sym (c .before .stands .ensures) ∙ c .if2 .taken) in
     let k = rw (c .before .before .closing-mark .ensures) at (a .1) in
     ((λ fuel h. passed-stop _ _ _ _ _ _ fuel _ _ _ _ h p (closing-here _ _ (openingOf (c .before .before .before .before .before .before .before .before .before .before .before .before .args .brace)) (a .0) k) (a .0) k), (omega (arith, a .0), omega arith))
@@ -417,7 +418,7 @@ unfolding memberOf
 held-returns-3 t c =
     let v = c .before .before .before .before .before .before .before .before .before .before .several in
     let e = v .ensures .1 in
-    let p = v .ensures .0 (nested (c .before .before .before .before .before .before .before .before .before .before .before .before .before .before .before .before .before .args .message .now) (c .before .before .before .before .before .before .before .before .before .before .before .before .before .before .before .before .before .args .lent) (c .before .before .before .before .before .before .before .before .before .before .before .before .before .before .before .before .before .args .levels)) in
+    let p = v .ensures .0 (grammarOf (c .before .before .before .before .before .before .before .before .before .before .before .before .before .before .before .before .before .args .edition)) (nested (c .before .before .before .before .before .before .before .before .before .before .before .before .before .before .before .before .before .args .message .now) (c .before .before .before .before .before .before .before .before .before .before .before .before .before .before .before .before .before .args .lent) (grammarOf (c .before .before .before .before .before .before .before .before .before .before .before .before .before .before .before .before .before .args .edition)) (c .before .before .before .before .before .before .before .before .before .before .before .before .before .before .before .before .before .args .levels)) in
     let l = c .before .before .before .plain2 in
     rw (c .plus .ensures) (list-passed _ _ _ _ _ _ (l .result) _ _ _ _ _ p (l .ensures .0), (list-within (l .result) _ _ _ _ _ (e .on) (l .ensures .1 .1) (l .ensures .1 .0), each-byte (l .result) _ _ _ (e .on) (l .ensures .1 .1)))
 
@@ -469,14 +470,14 @@ member-returns-3 t c =
     (opened-meets (v .result) _ _ _ _ _ _ _ _ h _ (v .ensures .0), within-from (v .result) _ _ _ _ (omega arith) (v .ensures .1))
 
 abbrev plain-Inv-loop : plain-lts.InvT-loop
-plain-Inv-loop message rows₀ lent levels brace start first end closing at₀ row₀ count₀ rows at row count =
+plain-Inv-loop edition message rows₀ lent levels brace start first end closing at₀ row₀ count₀ rows at row count =
     Going message lent start at row count
     × (length rows ≡ length rows₀)
     × (start + count ≤ at)
-    × ((fuel₀ : ℕ) → length message ≤ start + fuel₀ → Until message (skip message) (closes (openingOf brace)) (memberOf message lent levels (openingOf brace)) start first rows₀ fuel₀ at row count rows)
+    × ((fuel₀ : ℕ) → length message ≤ start + fuel₀ → Until message (skip message) (closes (openingOf brace)) (memberOf message lent (grammarOf edition) levels (openingOf brace)) start first rows₀ fuel₀ at row count rows)
 
 abbrev plain-μ-loop : plain-lts.MeasureT-loop
-plain-μ-loop message rows₀ lent levels brace start first end closing at₀ row₀ count₀ rows at row count = length message - at
+plain-μ-loop edition message rows₀ lent levels brace start first end closing at₀ row₀ count₀ rows at row count = length message - at
 
 plain-closing-mark-requires : (t : ℕ) → plain-lts.Need-closing-mark-requires (plain-calls t) (plain-at t) plain.Post plain-Inv-loop plain-μ-loop
 plain-closing-mark-requires t c κs = search needs
@@ -542,15 +543,15 @@ plain-loop-again t c =
     let e = c .before .next .given .1 in
     let w = rw e at (v .ensures .1) in
     let p = rw e at (rw (s .0) at (v .ensures .0)) in
-    (omega arith, v .kept .1 .0 ∙ i .1, omega arith, λ fuel₀ h. until-passed _ _ _ _ _ _ _ _ _ _ _ _ _ _ _ (until-skip _ _ _ _ _ _ _ _ _ _ _ (rw (← s .0) (s .1 .0)) (i .3 fuel₀ h)) p)
+    (omega arith, v .kept .1 .1 .0 ∙ i .1, omega arith, λ fuel₀ h. until-passed _ _ _ _ _ _ _ _ _ _ _ _ _ _ _ (until-skip _ _ _ _ _ _ _ _ _ _ _ (rw (← s .0) (s .1 .0)) (i .3 fuel₀ h)) p)
 
 pub +container+counted+following+held+member+plain-spec : {M : Type 1} → statement M
 +container+counted+following+held+member+plain-spec =
     close μ-container μ-counted μ-following μ-held μ-member μ-plain (λ t. container-lts.spec (container-calls t) (container-at t)
-    container.Post (container-add-below t) (container-header-at-requires t) (container-enum-known-n t) (container-enum-told t) (container-typed-requires t) (container-enum-known-n-2 t) (container-sub-counted t) (container-counted-requires t) (container-close-requires t) (container-enum-told-2 t) (container-add-start t) (container-sub-plain t) (container-plain-requires t) (container-close-requires-2 t) (container-returns t) (container-same-length t) (container-returns-2 t) (container-same-length-2 t) (container-returns-3 t) (container-same-length-3 t) (container-returns-4 t)) (λ t. counted-lts.spec (counted-calls t) (counted-at t)
+    container.Post (container-add-below t) (container-header-at-requires t) (container-enum-known-n t) (container-enum-told t) (container-typed-requires t) (container-enum-known-n-2 t) (container-sub-left t) (container-counted-requires t) (container-close-requires t) (container-enum-told-2 t) (container-add-start t) (container-sub-left-2 t) (container-plain-requires t) (container-close-requires-2 t) (container-returns t) (container-same-length t) (container-returns-2 t) (container-same-length-2 t) (container-returns-3 t) (container-same-length-3 t) (container-returns-4 t)) (λ t. counted-lts.spec (counted-calls t) (counted-at t)
     counted.Post
     counted-Inv-loop
-    counted-μ-loop (counted-loop-holds t) (counted-sub-most t) (counted-several-requires t) (counted-add-count t) (counted-loop-less t) (counted-loop-again t) (counted-skip-requires t) (counted-member-requires t) (counted-enum-known-number t) (counted-same-length t) (counted-returns t) (counted-enum-known-next t) (counted-add-count-2 t) (counted-loop-less-2 t) (counted-loop-again-2 t) (counted-same-length-2 t) (counted-returns-2 t)) (λ t. following-lts.spec (following-calls t) (following-at t)
+    counted-μ-loop (counted-loop-holds t) (counted-sub-several t) (counted-several-requires t) (counted-add-count t) (counted-loop-less t) (counted-loop-again t) (counted-skip-requires t) (counted-member-requires t) (counted-enum-known-number t) (counted-same-length t) (counted-returns t) (counted-enum-known-next t) (counted-add-count-2 t) (counted-loop-less-2 t) (counted-loop-again-2 t) (counted-same-length-2 t) (counted-returns-2 t)) (λ t. following-lts.spec (following-calls t) (following-at t)
     following.Post (following-opens-plain-requires t) (following-shared-slice-read-inner t) (following-add-start t) (following-add-below t) (following-sub-held t) (following-held-requires t) (following-close-requires t) (following-one-requires t) (following-same-length t) (following-returns t) (following-several-requires t) (following-same-length-2 t) (following-returns-2 t) (following-member-requires t) (following-one-requires-2 t) (following-same-length-3 t) (following-returns-3 t)) (λ t. held-lts.spec (held-calls t) (held-at t)
     held.Post (held-byte-at-requires t) (held-is-opening-requires t) (held-plain-requires t) (held-same-length t) (held-returns t) (held-several-requires t) (held-closing-mark-requires t) (held-stands-requires t) (held-same-length-2 t) (held-returns-2 t) (held-plain-requires-2 t) (held-plus-requires t) (held-same-length-3 t) (held-returns-3 t)) (λ t. member-lts.spec (member-calls t) (member-at t)
     member.Post (member-member-start-requires t) (member-enum-known-n t) (member-enum-known-next t) (member-enum-known-b t) (member-container-requires t) (member-same-length t) (member-returns t) (member-same-length-2 t) (member-returns-2 t) (member-same-length-3 t) (member-returns-3 t))

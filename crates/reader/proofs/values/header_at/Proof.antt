@@ -12,13 +12,13 @@ pub header-at-spec : {M : Type 1} → statement M
 header-at-spec =
     tie.close
     (tie.spec
-    (λ c. ((λ o. nested-deep _ _ _ _ o _ (c .if1 .taken)), tt))
-    (λ c. let d : 0 < c .before .before .before .args .levels = omega (arith, c .before .if1 .left) in ((λ o. nested-no-row _ _ _ _ o _ d (c .if2 .taken)), tt))
+    (λ c. ((λ g o. nested-deep _ _ g _ _ o _ (c .if1 .taken)), tt))
+    (λ c. let d : 0 < c .before .before .before .args .levels = omega (arith, c .before .if1 .left) in ((λ g o. nested-no-row _ _ g _ _ o _ d (c .if2 .taken)), tt))
     (λ c. omega arith)
-    (λ c. let d : 0 < c .before .before .before .before .args .levels = omega (arith, c .before .before .if1 .left) in ((λ o. nested-early _ _ _ _ o _ d (c .before .if2 .left) (c .if3 .taken)), tt))
+    (λ c. let d : 0 < c .before .before .before .before .args .levels = omega (arith, c .before .before .if1 .left) in ((λ g o. nested-early _ _ g _ _ o _ d (c .before .if2 .left) (c .if3 .taken)), tt))
     (λ c. c .before .if3 .left)
-    (λ c. let d : 0 < c .before .before .before .before .before .before .args .levels = omega (arith, c .before .before .before .before .if1 .left) in ((λ o. nested-typed _ _ _ _ o _ d (c .before .before .before .if2 .left) (c .before .before .if3 .left) (c .if4 .taken)), (c .before .before .before .if2 .left, omega arith)))
-    (λ c. let d : 0 < c .before .before .before .before .before .before .before .args .levels = omega (arith, c .before .before .before .before .before .if1 .left) in ((λ o. nested-plain _ _ _ _ o _ d (c .before .before .before .before .if2 .left) (c .before .before .before .if3 .left) (c .before .if4 .left) (c .if5 .taken)), (c .before .before .before .before .if2 .left, d, omega arith)))
+    (λ c. let d : 0 < c .before .before .before .before .before .before .args .levels = omega (arith, c .before .before .before .before .if1 .left) in ((λ g o. nested-typed _ _ g _ _ o _ d (c .before .before .before .if2 .left) (c .before .before .if3 .left) (c .if4 .taken)), (c .before .before .before .if2 .left, omega arith)))
+    (λ c. let d : 0 < c .before .before .before .before .before .before .before .args .levels = omega (arith, c .before .before .before .before .before .if1 .left) in ((λ g o. nested-plain _ _ g _ _ o _ d (c .before .before .before .before .if2 .left) (c .before .before .before .if3 .left) (c .before .if4 .left) (c .if5 .taken)), (c .before .before .before .before .if2 .left, d, omega arith)))
     (λ c. omega arith)
     (λ c κs. search needs)
     (λ c. search needs)
@@ -27,9 +27,9 @@ header-at-spec =
     (λ c.
     let d : 0 < c .before .before .before .before .before .before .before .before .before .before .before .args .levels = omega (arith, c .before .before .before .before .before .before .before .before .before .if1 .left) in
     let e = c .before .n .given .1 in
-    ((λ o. nested-count-fault _ _ _ _ o _ d (c .before .before .before .before .before .before .before .before .if2 .left) (c .before .before .before .before .before .before .before .if3 .left) (c .before .before .before .before .before .if4 .left) (c .before .before .before .before .if5 .left) _ _ (sym (c .before .before .before .integer .ensures .0) ∙ ap parsed e)), tt))
+    ((λ g o. nested-count-fault _ _ g _ _ o _ d (c .before .before .before .before .before .before .before .before .if2 .left) (c .before .before .before .before .before .before .before .if3 .left) (c .before .before .before .before .before .if4 .left) (c .before .before .before .before .if5 .left) _ _ (sym (c .before .before .before .integer .ensures .0) ∙ ap parsed e)), tt))
     (λ c.
     let d : 0 < c .before .before .before .before .before .before .before .before .before .before .before .args .levels = omega (arith, c .before .before .before .before .before .before .before .before .before .if1 .left) in
     let e = c .before .n2 .given .1 in
     let b = rw e at (c .before .before .before .integer .ensures .1) in
-    ((λ o. nested-counted _ _ _ _ o _ d (c .before .before .before .before .before .before .before .before .if2 .left) (c .before .before .before .before .before .before .before .if3 .left) (c .before .before .before .before .before .if4 .left) (c .before .before .before .before .if5 .left) _ _ (sym (c .before .before .before .integer .ensures .0) ∙ ap parsed e)), (c .before .before .before .before .before .before .before .before .if2 .left, d, b .0, omega arith, b .2))))
+    ((λ g o. nested-counted _ _ g _ _ o _ d (c .before .before .before .before .before .before .before .before .if2 .left) (c .before .before .before .before .before .before .before .if3 .left) (c .before .before .before .before .before .if4 .left) (c .before .before .before .before .if5 .left) _ _ (sym (c .before .before .before .integer .ensures .0) ∙ ap parsed e)), (c .before .before .before .before .before .before .before .before .if2 .left, d, b .0, omega arith, b .2))))

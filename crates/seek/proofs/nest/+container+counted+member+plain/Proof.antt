@@ -4,6 +4,7 @@ use native.Mathlib.Omega.{arith}
 use native.Mathlib.Nat.{add-zero}
 use lib.ListN.{length}
 use borrow.Author.Needs.{needs}
+use Rattle.format.specs.Grammars.{new}
 use Rattle.format.specs.Marks.{openingOf, closes}
 use Rattle.format.specs.Bytes.{skip}
 use Rattle.format.specs.Sequences.{spaced}
@@ -135,30 +136,30 @@ container-plain-requires t c κs =
 container-returns : (t : ℕ) → container-lts.Need-returns (container-calls t) (container-at t) container.Post
 container-returns t c =
     let h = rw (c .enum-told .given .1) at (c .before .before .header-at .ensures .0) in
-    ((λ f next q. no-fault _ _ _ (f, next) (h _) q), tt)
+    ((λ f next q. no-fault _ _ _ (f, next) (h new _) q), tt)
 
 container-returns-2 : (t : ℕ) → container-lts.Need-returns-2 (container-calls t) (container-at t) container.Post
 container-returns-2 t c =
     let h = rw (c .before .enum-told2 .given .1) at (c .before .before .before .header-at .ensures .0) in
     let v = c .typed-at in
-    (rw (h (openingOf (c .before .before .before .before .before .args .brace))) (v .ensures .0), v .ensures .1)
+    (rw (h new (openingOf (c .before .before .before .before .before .args .brace))) (v .ensures .0), v .ensures .1)
 
 container-returns-3 : (t : ℕ) → container-lts.Need-returns-3 (container-calls t) (container-at t) container.Post
 container-returns-3 t c =
     let h = rw (c .before .before .n .given .1) at (c .before .before .before .before .header-at .ensures .0) in
     let w = rw (c .before .before .n .given .1) at (c .before .before .before .before .header-at .ensures .1) in
     let v = c .counted in
-    (rw (h (openingOf (c .before .before .before .before .before .before .args .brace))) (closed-walks (v .result) _ _ _ _ 0 _ _ _ (λ f end e. rw (add-zero end) (v .ensures .0 f end e))), within-from (v .result) _ _ _ (omega arith) (v .ensures .1))
+    (rw (h new (openingOf (c .before .before .before .before .before .before .args .brace))) (closed-walks (v .result) _ _ _ _ 0 _ _ _ (λ f end e. rw (add-zero end) (v .ensures .0 f end e))), within-from (v .result) _ _ _ (omega arith) (v .ensures .1))
 
 container-returns-4 : (t : ℕ) → container-lts.Need-returns-4 (container-calls t) (container-at t) container.Post
 container-returns-4 t c =
     let h = rw (c .before .enum-told3 .given .1) at (c .before .before .before .header-at .ensures .0) in
     let v = c .plain in
-    (rw (h (openingOf (c .before .before .before .before .before .args .brace))) (closed-walks (v .result) _ _ _ _ 1 _ _ _ (v .ensures .0)), v .ensures .1)
+    (rw (h new (openingOf (c .before .before .before .before .before .args .brace))) (closed-walks (v .result) _ _ _ _ 1 _ _ _ (v .ensures .0)), v .ensures .1)
 
 abbrev counted-Inv-loop : counted-lts.InvT-loop
 counted-Inv-loop message levels brace n start first number at₀ row₀ left₀ count₀ at row left count =
-    Going message (length message) start at row 0 × Some message n (spaced message (memberOf message (length message) levels (openingOf brace))) start first number at row left count
+    Going message (length message) start at row 0 × Some message n (spaced message (memberOf message (length message) new levels (openingOf brace))) start first number at row left count
 
 abbrev counted-μ-loop : counted-lts.MeasureT-loop
 counted-μ-loop message levels brace n start first number at₀ row₀ left₀ count₀ at row left count = n - count
@@ -242,7 +243,7 @@ unfolding memberOf
 member-returns-2 t c =
     let e = c .before .next .given .1 in
     let h = rw e at (c .before .before .before .before .member-start .ensures .0) in
-    (member-past _ _ _ _ _ _ _ _ _ h _, rw e at (c .before .before .before .before .member-start .ensures .1))
+    (member-past _ _ _ _ _ _ _ _ _ _ h _, rw e at (c .before .before .before .before .member-start .ensures .1))
 
 member-returns-3 : (t : ℕ) → member-lts.Need-returns-3 (member-calls t) (member-at t) member.Post
 unfolding memberOf
@@ -251,11 +252,11 @@ member-returns-3 t c =
     let h = rw e at (c .before .before .before .before .before .member-start .ensures .0) in
     let w = rw e at (c .before .before .before .before .before .member-start .ensures .1) in
     let v = c .container in
-    (member-opens _ _ _ _ (v .result) _ _ _ _ _ _ h _ (v .ensures .0), within-from (v .result) _ _ _ (omega arith) (v .ensures .1))
+    (member-opens _ _ _ _ _ (v .result) _ _ _ _ _ _ h _ (v .ensures .0), within-from (v .result) _ _ _ (omega arith) (v .ensures .1))
 
 abbrev plain-Inv-loop : plain-lts.InvT-loop
 plain-Inv-loop message levels brace start first number end closing at₀ row₀ left₀ at row left =
-    Going message (length message) start at row 0 × Until message (skip message) (closes (openingOf brace)) (memberOf message (length message) levels (openingOf brace)) start first number at row left
+    Going message (length message) start at row 0 × Until message (skip message) (closes (openingOf brace)) (memberOf message (length message) new levels (openingOf brace)) start first number at row left
 
 abbrev plain-μ-loop : plain-lts.MeasureT-loop
 plain-μ-loop message levels brace start first number end closing at₀ row₀ left₀ at row left = length message - at
