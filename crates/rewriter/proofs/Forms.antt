@@ -7,10 +7,12 @@ use native.Mathlib.Omega.{arith}
 use lib.Dec.{eqb, ltb}
 use borrow.Author.Tests.{lt-ltb, ltb-true, eqb-true}
 use Rattle.format.specs.Conditions.{if_then_else_, among, all}
-use Rattle.format.specs.Marks.{Opening, bracket, brace, opens, closes, integers, types, isType, isScalar, isPlainLeaf, isLeaf, letterOf, 'F', 'H', 'S', 'T', 'Z', '[', ']', '#', '$'}
-use Rattle.format.specs.Tokens.{Kind, kindNumber, scalar, text, highPrecision, key, array, object, packed, table, leaf, schemaRecord, fixedArray, dimension, Token, firstSlowest, Forest, none, _⊕_}
+use Rattle.format.specs.Marks.{Opening, bracket, brace, opens, closes, integers, types, isType, isScalar, isPlainLeaf, isLeaf, letterOf, 'E', 'F', 'H', 'S', 'T', 'Z', '[', ']', '#', '$'}
+use Rattle.format.specs.Tokens.{Kind, kindNumber, scalar, text, highPrecision, key, array, object, packed, table, leaf, schemaRecord, fixedArray, dimension, extension, Token, firstSlowest, Forest, none, _⊕_}
 use Rattle.format.specs.Records.{atOffset, placed}
 use Rattle.format.specs.Rows.{rowOf}
+use Rattle.format.specs.Grammars.{Grammar}
+use Rattle.format.specs.Extensions.{idBytes}
 use Rattle.format.specs.HouseForm.{smallInteger, shape, tableForm, whole, payloadOf, token, written, house}
 use Rattle.format.specs.Dimensions.{Shape}
 use Rattle.format.specs.Schemas as Schemas
@@ -20,7 +22,7 @@ use Rattle.laws.proofs.Schemas.{groupKind, Members, noMore, key as keyMember, l
 use Rattle.laws.proofs.Order.{group-kind}
 use Rattle.laws.proofs.Counts.{Shaped, plain, vector}
 use Rattle.storage.proofs.Offsets.{member-placed, width-placed, is-placed, members-placed}
-use Rattle.meaning.proofs.Accepted.{Sort, Number, Accepted, stop, more, both, apart, aScalar, aText, aNumber, aKey, aContainer, aDimension, aPacked, aLeaf, aTextLeaf, aKind, aGroup, aTable as aTableRead}
+use Rattle.meaning.proofs.Accepted.{Sort, Number, Accepted, stop, more, both, apart, aScalar, aText, aNumber, anExtension, aKey, aContainer, aDimension, aPacked, aLeaf, aTextLeaf, aKind, aGroup, aTable as aTableRead}
 use Rattle.writer.specs.Pieces.{isSingle, isList, shapeStart, shapeEnd, payloadAt, single, head, middle, tail}
 use Rattle.rewriter.specs.Formed.{Single, Around, Tabular, Formed, noToken, aSingle, aNested, aTable}
 
@@ -61,6 +63,9 @@ text-byte = omega arith
 number-byte : 'H' < 256
 number-byte = omega arith
 
+extension-byte : 'E' < 256
+extension-byte = omega arith
+
 -- ---- tokens with none below them
 
 -- a dimension is written without its mark
@@ -76,6 +81,7 @@ single-form t highPrecision e s b = record { alone = rw e s; form = λ m link. r
 single-form t key e s b = record { alone = rw e s; form = λ m link. rw e }
 single-form t leaf e s b = record { alone = rw e s; form = λ m link. rw (e, letter-is (t .mark) b) }
 single-form t dimension e s b = dimension-form t e
+single-form t extension e s b = absurd (false≢true s)
 single-form t array e s b = absurd (false≢true s)
 single-form t object e s b = absurd (false≢true s)
 single-form t packed e s b = absurd (false≢true s)
@@ -99,6 +105,11 @@ group-form : (o : Opening) (t : Token) (below : Forest) → t .kind ≡ groupKin
 unfolding isSingle isList among token head tail rowOf house opens closes if_then_else_
 group-form bracket t below e q = record { not-alone = rw e; no-table = rw e; form = λ m link. rw (e, q, open-byte bracket) }
 group-form brace t below e q = record { not-alone = rw e; no-table = rw e; form = λ m link. rw (e, q, open-byte brace) }
+
+-- an extension has none below it, and is written around them all the same
+extension-form : (t : Token) → t .kind ≡ extension → t .mark < 256 → Around t none
+unfolding isSingle isList among token payloadOf head tail payloadAt rowOf house written whole if_then_else_
+extension-form t e b = record { not-alone = rw e; no-table = rw e; form = λ m link. rw (e, letter-is (t .mark) b) (ap (λ l. t .mark ∷ l) (append-assoc (idBytes m (t .first)) (smallInteger (t .extent)) (payloadOf m t))) }
 
 -- a shape is what stands before its dimensions, these, and what stands after them
 in-brackets : (b : Bool) (dims : List ℕ)
@@ -170,7 +181,7 @@ table-formed o at start extent n (grouped {t = t} {below = fields} i e u) c d =
     (aTable (table-form _ (atOffset 0 t) (placed 0 fields) refl (opens-byte o) c) (formed-members (group-one (grouped (is-placed 0 i) (e ∙ sym (width-placed 0 fields)) (members-placed 0 u)) false)) d noToken)
 
 -- of every sort
-pub accepted-formed : {m : List ℕ} {n : Number} {s : Sort} {f : Forest} → Accepted m n s f → Formed f
+pub accepted-formed : {m : List ℕ} {grammar : Grammar} {n : Number} {s : Sort} {f : Forest} → Accepted m grammar n s f → Formed f
 unfolding isSingle among Schemas.leaf Schemas.group Containers.stored
 accepted-formed stop = noToken
 accepted-formed (more w p q) = formed-append (accepted-formed p) (accepted-formed q)
@@ -179,6 +190,7 @@ accepted-formed (apart p) = accepted-formed p
 accepted-formed (aScalar levels mark at start t c) = aSingle (single-form _ scalar refl refl (scalar-byte mark t)) noToken
 accepted-formed (aText levels at start n h c) = aSingle (single-form _ text refl refl text-byte) noToken
 accepted-formed (aNumber levels at start n h c) = aSingle (single-form _ highPrecision refl refl number-byte) noToken
+accepted-formed (anExtension levels id at start n on i h z c) = aNested (extension-form _ refl extension-byte) noToken noToken
 accepted-formed (aKey at start n h c) = aSingle (single-form _ key refl refl text-byte) noToken
 accepted-formed (aContainer levels o at start end p) = container-formed o at start end (accepted-formed p)
 accepted-formed (aDimension mark at start n h) = aSingle (dimension-form _ refl) noToken

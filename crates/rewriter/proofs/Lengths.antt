@@ -1,7 +1,7 @@
 -- What a row writes is short. Assumes nothing.
 use Prim.Native.Nat.{ℕ, _+_, _≤_}
 use mathlib.Core.Bool.{Bool, true, false}
-use mathlib.Core.List.{List, []}
+use mathlib.Core.List.{List, [], _++_}
 use native.Mathlib.Omega.{arith}
 use lib.ListN.{length, drop, length-append, length-take, length-drop}
 use lib.Dec.{eqb}
@@ -10,9 +10,10 @@ use Rattle.format.specs.Limits.{limit}
 use Rattle.format.specs.Marks.{letterOf, 'S'}
 use Rattle.format.specs.Rows.{Row}
 use Rattle.format.specs.Bytes.{bytes}
+use Rattle.format.specs.Extensions.{idBytes}
 use Rattle.format.specs.HouseForm.{smallInteger}
 use Rattle.writer.specs.Pieces.{shapeStart, shapeEnd, payloadAt, single, head, middle, tail}
-use Rattle.writer.proofs.Putting.{integer-few, end-few}
+use Rattle.writer.proofs.Putting.{integer-few, id-few, end-few}
 
 -- so many bytes at most
 record Few (n : ℕ) (l : List ℕ) : Type 0 where
@@ -60,13 +61,17 @@ module _ (m : List ℕ) (short : length m ≤ limit) where
           let k : Few 9 (if eqb (letterOf (r .mark)) 'S' then smallInteger (r .extent) else []) = either _ (record { few = i }) (record { few = omega arith }) in
           either _ (record { few = omega arith }) (either _ (record { few = omega arith }) (either _ (record { few = omega arith }) (either _ (record { few = omega arith }) (record { few = omega arith }))))
 
-  pub tail-few : (r : Row) → length (tail m r) ≤ limit + 2
+  pub tail-few : (r : Row) → length (tail m r) ≤ limit + 18
   unfolding tail payloadAt
   tail-few r = go .few
     where
-      go : Few (limit + 2) (tail m r)
+      go : Few (limit + 18) (tail m r)
       go =
           let b = bytes-few (r .payload) (r .extent) in
           let e = end-few (r .order) in
           let l = length-append (shapeEnd (r .order)) (bytes m (r .payload) (r .extent)) in
-          either _ (record { few = omega arith }) (either _ (record { few = omega arith }) (record { few = omega arith }))
+          let d = id-few m (r .first) in
+          let i = integer-few (r .extent) in
+          let p = length-append (smallInteger (r .extent)) (bytes m (r .payload) (r .extent)) in
+          let q = length-append (idBytes m (r .first)) (smallInteger (r .extent) ++ bytes m (r .payload) (r .extent)) in
+          either _ (record { few = omega arith }) (either _ (record { few = omega arith }) (either _ (record { few = omega arith }) (record { few = omega arith })))

@@ -12,6 +12,7 @@ use Rattle.format.specs.Refusals.{outputTooLong}
 use Rattle.format.specs.Tokens.{Forest, size}
 use Rattle.format.specs.Rows.{rowsIn, zeros, filled}
 use Rattle.format.specs.Read.{read, readInto, rowsUsed, wordsAfter}
+use Rattle.format.specs.Grammars.{Grammar}
 use Rattle.format.specs.HouseForm.{house, rewrite, bytesWritten, outputAfter, rewriteWordsAfter}
 use Rattle.format.proofs.Tests.{both-true}
 use Rattle.laws.proofs.Holds.{of-done}
@@ -41,15 +42,15 @@ unfolding rowsUsed
 refuses (fault a b) n p e = cc
 refuses (done f) n p e = let z : _≡_ {A = ℕ} 0 1 = cc in absurd (omega arith)
 
-module _ (m ws : List ℕ) where
+module _ (m ws : List ℕ) (grammar : Grammar) where
   -- what reading leaves in the words are the rows of tokens that are written as their rows say
-  pub held-read : (used : ℕ) (after : List ℕ) → after ≡ wordsAfter (length ws) (readInto m ws) → (a : Accepts (readInto m ws) used) → Held after 0 used
+  pub held-read : (used : ℕ) (after : List ℕ) → after ≡ wordsAfter (length ws) (readInto m ws grammar) → (a : Accepts (readInto m ws grammar) used) → Held after 0 used
   unfolding readInto rowsIn
   held-read used after e a =
       let f = a .tokens in
       let q : after ≡ wordsAfter (length ws) (done f) = e ∙ ap (wordsAfter (length ws)) (a .read) in
       let full = subst (λ l. Filled f l) (sym q) (read-fills (length ws) f) in
-      let h = of-done f (read-finds m (rowsIn ws)) (a .read) in
+      let h = of-done f (read-finds m (rowsIn ws) grammar) (a .read) in
       record {
         tokens = f;
         formed = accepted-formed (h .1);
@@ -58,11 +59,11 @@ module _ (m ws : List ℕ) where
         inside = let u = a .rows-used in omega (arith, filled-enough f after full);
       }
 
-  pub room-read : (used : ℕ) → Accepts (readInto m ws) used → Room m 0 0 used
+  pub room-read : (used : ℕ) → Accepts (readInto m ws grammar) used → Room m 0 0 used
   unfolding readInto
   room-read used a =
-      let h = of-done (a .tokens) (read-finds m (rowsIn ws)) (a .read) in
-      let k = rows-few m (rowsIn ws) (a .tokens) (a .read) in
+      let h = of-done (a .tokens) (read-finds m (rowsIn ws) grammar) (a .read) in
+      let k = rows-few m (rowsIn ws) grammar (a .tokens) (a .read) in
       let u = a .rows-used in
       record { short = h .0; low = omega (arith, h .0, k .0) }
 
@@ -70,27 +71,27 @@ module _ (m ws : List ℕ) where
 
   module _ (room : ℕ) where
     abbrev answer : Outcome (List ℕ)
-    answer = rewrite m (rowsIn ws) room
+    answer = rewrite m (rowsIn ws) grammar room
 
     -- what the call answers, and what it leaves in output and words
     pub record Leaves (o : Outcome ℕ) (output words : List ℕ) : Type 0 where
       pub answers : o ≡ bytesWritten answer
       pub output-is : output ≡ outputAfter room answer
-      pub words-are : words ≡ rewriteWordsAfter (length ws) (readInto m ws) answer
+      pub words-are : words ≡ rewriteWordsAfter (length ws) (readInto m ws grammar) answer
 
     leaves-fault : (n p : ℕ) (output words : List ℕ) → answer ≡ fault n p → output ≡ zeros room → words ≡ zeros (length ws) → Leaves (fault n p) output words
     unfolding bytesWritten outputAfter rewriteWordsAfter
     leaves-fault n p output words e o w = record { answers = rw e; output-is = rw e o; words-are = rw e w }
 
-    pub refused : (n p : ℕ) (output words : List ℕ) → fault n p ≡ rowsUsed (readInto m ws) → output ≡ zeros room → words ≡ wordsAfter (length ws) (readInto m ws)
+    pub refused : (n p : ℕ) (output words : List ℕ) → fault n p ≡ rowsUsed (readInto m ws grammar) → output ≡ zeros room → words ≡ wordsAfter (length ws) (readInto m ws grammar)
         → Leaves (fault n p) output words
     unfolding readInto rewrite wordsAfter _>>=_
     refused n p output words e o w =
-        let r = refuses (readInto m ws) n p e in
+        let r = refuses (readInto m ws grammar) n p e in
         leaves-fault n p output words (rw r) o (rw r at w)
 
   -- the bytes that were put are the house form, and where it fits nothing else is left in the output
-  module _ (before after : List ℕ) (used end : ℕ) (rows : List ℕ) (a : Accepts (readInto m ws) used) (w : rows ≡ wordsAfter (length ws) (readInto m ws)) (kept : length rows ≡ length ws)
+  module _ (before after : List ℕ) (used end : ℕ) (rows : List ℕ) (a : Accepts (readInto m ws grammar) used) (w : rows ≡ wordsAfter (length ws) (readInto m ws grammar)) (kept : length rows ≡ length ws)
       (puts : (h : Held rows 0 used) → Puts before after 0 end (house m (h .tokens))) where
     put-all : Puts before after 0 end (house m (a .tokens))
     unfolding held-read

@@ -1,4 +1,4 @@
--- Tokens that are written as their rows say: one with none below it whole; another from what its row writes before those below it, from
+-- Tokens that are written as their rows say: one whole; another from what its row writes before those below it, from
 -- those, and from what its row writes after them; a table from its schema and its dimensions, with something between.
 use Prim.Native.Nat.{ℕ}
 use mathlib.Core.Path.{_≡_}

@@ -1,6 +1,7 @@
 // A whole message, rewritten.
 use crate::walk::put_tokens;
 use format::answers::Answer;
+use format::answers::Edition;
 use format::limits::LIMIT;
 use reader::message::read;
 use rows::clear;
@@ -11,7 +12,7 @@ ghost use lib.ListN.{length};
 ghost use Rattle.format.specs.Rows.{rowsIn};
 ghost use Rattle.format.specs.Read.{readInto};
 ghost use Rattle.format.specs.HouseForm.{rewrite as rewriteOf, bytesWritten, outputAfter, rewriteWordsAfter};
-ghost use Rattle.format.specs.Answers.{answered};
+ghost use Rattle.format.specs.Answers.{answered, grammarOf};
 ghost use Rattle.rewriter.specs.Settled.{fitsIn, Settled};
 
 // Whether so many bytes fit the room, and the limit.
@@ -39,12 +40,12 @@ fn settle(rows: &mut [u32], output: &mut [u8], end: usize) -> Answer
 
 // Writes a message in house form: the bytes written, or a refusal's number and place. The rows then hold the message's rows. What
 // isn't filled of rows and output is zero, on refusal all.
-pub fn rewrite(message: &[u8], rows: &mut [u32], output: &mut [u8]) -> Answer
-    ensures answer { λ r. ⌜ answered r ≡ bytesWritten (rewriteOf (now (message .entry)) (rowsIn (now (rows .entry))) (length (now (output .entry)))) ⌝ }
-    ensures output { λ _. ⌜ now (output .exit) ≡ outputAfter (length (now (output .entry))) (rewriteOf (now (message .entry)) (rowsIn (now (rows .entry))) (length (now (output .entry)))) ⌝ }
-    ensures words { λ _. ⌜ now (rows .exit) ≡ rewriteWordsAfter (length (now (rows .entry))) (readInto (now (message .entry)) (now (rows .entry))) (rewriteOf (now (message .entry)) (rowsIn (now (rows .entry))) (length (now (output .entry)))) ⌝ }
+pub fn rewrite(edition: Edition, message: &[u8], rows: &mut [u32], output: &mut [u8]) -> Answer
+    ensures answer { λ r. ⌜ answered r ≡ bytesWritten (rewriteOf (now (message .entry)) (rowsIn (now (rows .entry))) (grammarOf edition) (length (now (output .entry)))) ⌝ }
+    ensures output { λ _. ⌜ now (output .exit) ≡ outputAfter (length (now (output .entry))) (rewriteOf (now (message .entry)) (rowsIn (now (rows .entry))) (grammarOf edition) (length (now (output .entry)))) ⌝ }
+    ensures words { λ _. ⌜ now (rows .exit) ≡ rewriteWordsAfter (length (now (rows .entry))) (readInto (now (message .entry)) (now (rows .entry)) (grammarOf edition)) (rewriteOf (now (message .entry)) (rowsIn (now (rows .entry))) (grammarOf edition) (length (now (output .entry)))) ⌝ }
 {
-    match read(message, rows) {
+    match read(edition, message, rows) {
         Answer::Refused(n, p) => {
             clear_bytes(output);
             Answer::Refused(n, p)

@@ -5,14 +5,16 @@ use mathlib.Core.Bool.{Bool, true, false}
 use mathlib.Core.List.{List, [], _∷_, _++_, append-nil, append-assoc}
 use native.Mathlib.Omega.{arith}
 use native.Mathlib.Numerals.{add-one}
-use lib.ListN.{length, set, take, getD, length-set, length-append}
+use lib.ListN.{length, set, take, drop, getD, length-set, length-take, length-append}
 use lib.Dec.{eqb}
 use borrow.Author.Tests.{lt-ltb, le-ltb}
 use lib.Seq.{sets, length-sets, length-take-le, take-all, take-suc}
 use Rattle.format.specs.Conditions.{if_then_else_, among}
 use Rattle.format.specs.Marks.{width, 'U', 'u', 'm', ']'}
 use Rattle.format.specs.Tokens.{plainCount, firstSlowest}
+use Rattle.format.specs.Bytes.{bytes}
 use Rattle.format.specs.Integers.{smallest}
+use Rattle.format.specs.Extensions.{idBytes}
 use Rattle.format.specs.HouseForm.{digits, smallInteger}
 use Rattle.format.proofs.MarkFacts.{width-few}
 use Rattle.format.proofs.Little.{length-digits}
@@ -114,6 +116,13 @@ integer-puts n mark e p q = rw e (puts-append (mark ∷ []) (digits (width mark)
 pub integer-few : (n : ℕ) → length (smallInteger n) ≤ 9
 unfolding smallInteger
 integer-few n = let e = length-digits (width (smallest n)) n in omega (arith, width-few (smallest n))
+
+-- an id has nine bytes at most
+pub id-few : (m : List ℕ) (first : ℕ) → length (idBytes m first) ≤ 9
+unfolding idBytes bytes
+id-few m first =
+    let w = width (getD m (first + 1) 0) in
+    omega (arith, length-take w (drop (first + 2) m), width-few (getD m (first + 1) 0))
 
 -- a shape ends in two bytes at most
 pub end-few : (order : ℕ) → length (shapeEnd order) ≤ 2

@@ -1,17 +1,19 @@
--- What the row of a token writes of it in house form. A token with none below it is written whole; of the others, what stands before
--- those below it, and what after them. A table has its schema below it, then something between, then its dimensions.
+-- What the row of a token writes of it in house form. A token with none below it is written whole, but for an extension; of the others,
+-- what stands before those below it, and what after them. A table has its schema below it, then something between, then its dimensions.
+-- An extension is written as these are: its mark, none below it, and then the rest.
 use Prim.Native.Nat.{ℕ}
 use mathlib.Core.Bool.{Bool}
 use mathlib.Core.List.{List, [], _∷_, _++_}
 use lib.Dec.{eqb}
 use Rattle.format.specs.Conditions.{if_then_else_, among}
 use Rattle.format.specs.Marks.{openingOf, closes, letterOf, 'S', '#', '$', '[', ']'}
-use Rattle.format.specs.Tokens.{kindNumber, scalar, text, highPrecision, key, array, object, packed, table, leaf, schemaRecord, dimension, plainCount, firstSlowest}
+use Rattle.format.specs.Tokens.{kindNumber, scalar, text, highPrecision, key, array, object, packed, table, leaf, schemaRecord, dimension, extension, plainCount, firstSlowest}
 use Rattle.format.specs.Rows.{Row}
 use Rattle.format.specs.Bytes.{bytes}
+use Rattle.format.specs.Extensions.{idBytes}
 use Rattle.format.specs.HouseForm.{smallInteger}
 
--- the kinds of tokens that have none below them
+-- the kinds of tokens that are written whole
 unfoldable pub isSingle : ℕ → Bool
 isSingle = among (kindNumber scalar ∷ kindNumber text ∷ kindNumber highPrecision ∷ kindNumber key ∷ kindNumber leaf ∷ kindNumber dimension ∷ [])
 
@@ -64,4 +66,5 @@ module _ (m : List ℕ) where
   tail r =
       if isList (r .kind) then [] else
       if among (kindNumber packed ∷ kindNumber table ∷ []) (r .kind) then shapeEnd (r .order) ++ payloadAt r else
+      if eqb (r .kind) (kindNumber extension) then idBytes m (r .first) ++ (smallInteger (r .extent) ++ payloadAt r) else
       closes (openingOf (eqb (r .kind) (kindNumber schemaRecord))) ∷ []

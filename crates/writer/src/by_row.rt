@@ -3,6 +3,7 @@ use crate::bytes::put;
 use crate::bytes::put_integer;
 use crate::bytes::put_part;
 use crate::kinds::DIMENSION;
+use crate::kinds::EXTENSION;
 use crate::kinds::KEY;
 use crate::kinds::LEAF;
 use crate::kinds::PACKED;
@@ -23,14 +24,17 @@ use format::marks::Mark;
 use format::marks::TYPE;
 use format::marks::closing_mark;
 use rows::Row;
+use scan::bytes::byte_at;
 ghost use mathlib.Core.Path.{_≡_};
 ghost use mathlib.Core.List.{_∷_, _++_};
 ghost use Prim.Native.Nat.{_<_, _^_};
 ghost use Rattle.format.specs.Bytes.{bytes};
+ghost use Rattle.format.specs.Extensions.{idBytes};
+ghost use Rattle.format.specs.HouseForm.{smallInteger};
 ghost use Rattle.format.specs.Marks.{'#', '$', '['};
 ghost use Rattle.rows.specs.Row.{rowOf};
 ghost use Rattle.writer.specs.Puts.{Puts};
-ghost use Rattle.writer.specs.Pieces.{single, head, middle, tail, shapeStart, shapeEnd};
+ghost use Rattle.writer.specs.Pieces.{payloadAt, single, head, middle, tail, shapeStart, shapeEnd};
 
 // The n bytes from a place on, as far as the message has them.
 fn part<'a>(message: &'a [u8], at: usize, n: usize) -> &'a [u8]
@@ -47,7 +51,7 @@ fn part<'a>(message: &'a [u8], at: usize, n: usize) -> &'a [u8]
     &message[at..next]
 }
 
-// A token with none below it.
+// A token that is written whole.
 pub fn put_single(message: &[u8], output: &mut [u8], at: usize, r: Row) -> usize
     requires { ⌜ at < 2 ^ 58 ⌝ }
     ensures { λ s. ⌜ Puts (now (output .entry)) (now (output .exit)) at s (single (now (message .entry)) (rowOf r)) ⌝ }
@@ -124,6 +128,30 @@ fn put_payload(
     put_part(output, next, payload)
 }
 
+// The id of the extension that begins at `first`: its mark and its number, as they stand in the message.
+fn put_id(message: &[u8], output: &mut [u8], at: usize, first: u32) -> usize
+    requires { ⌜ at < 2 ^ 60 ⌝ }
+    ensures { λ s. ⌜ Puts (now (output .entry)) (now (output .exit)) at s (idBytes (now (message .entry)) first) ⌝ }
+{
+    let place = first as usize + 1;
+    let mark = byte_at(message, place);
+    let letter = Mark(mark);
+    let width = letter.width();
+    let from = first as usize + 2;
+    let number = part(message, from, width);
+    put_scalar(output, at, mark, number)
+}
+
+// An extension after its mark: its id, its length and its bytes.
+fn put_extension(message: &[u8], output: &mut [u8], at: usize, r: Row) -> usize
+    requires { ⌜ at < 2 ^ 58 ⌝ }
+    ensures { λ s. ⌜ Puts (now (output .entry)) (now (output .exit)) at s (idBytes (now (message .entry)) (r .first) ++ (smallInteger (r .extent) ++ payloadAt (now (message .entry)) (rowOf r))) ⌝ }
+{
+    let after = put_id(message, output, at, r.first);
+    let payload = part(message, r.payload as usize, r.extent as usize);
+    put_key(output, after, r.extent, payload)
+}
+
 // After the tokens below it.
 pub fn put_tail(message: &[u8], output: &mut [u8], at: usize, r: Row) -> usize
     requires { ⌜ at < 2 ^ 58 ⌝ }
@@ -137,6 +165,9 @@ pub fn put_tail(message: &[u8], output: &mut [u8], at: usize, r: Row) -> usize
     }
     if r.kind == TABLE {
         return put_payload(message, output, at, r.order, r.payload, r.extent);
+    }
+    if r.kind == EXTENSION {
+        return put_extension(message, output, at, r);
     }
     put(output, at, closing_mark(r.kind == SCHEMA_RECORD))
 }

@@ -24,7 +24,9 @@ pub const SCHEMA_RECORD: u32 = 10;
 
 pub const DIMENSION: u32 = 12;
 
-// Whether a token of this kind has none below it.
+pub const EXTENSION: u32 = 13;
+
+// Whether a token of this kind is written whole.
 pub fn is_single(kind: u32) -> bool
     ensures { λ r. ⌜ r ≡ isSingle kind ⌝ }
 {
