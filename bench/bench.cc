@@ -76,7 +76,7 @@ static double placeTime(const Bytes &m) { return best([&] { sink = sink + tankle
 static tanklefrost_reading lend(const Bytes &m)
 {
     rows.resize(8 * (size_t)tanklefrost_answer_rows(tanklefrost_rows_needed(m.data(), m.size())));
-    return tanklefrost_read(m.data(), m.size(), rows.data(), rows.size());
+    return tanklefrost_read(TANKLEFROST_NEW_EDITION, m.data(), m.size(), rows.data(), rows.size());
 }
 
 static void table(size_t size)
@@ -87,8 +87,8 @@ static void table(size_t size)
         tanklefrost_reading r = lend(m);
         if (r.number != 0) { printf("%-30s refused: %u at %zu\n", x.name.c_str(), r.number, r.place); continue; }
         double place = placeTime(m);
-        double read = best([&] { sink = sink + tanklefrost_read(m.data(), m.size(), rows.data(), rows.size()).amount; });
-        double rewrite = best([&] { sink = sink + tanklefrost_rewrite(m.data(), m.size(), rows.data(), rows.size(), output.data(), output.size()).amount; });
+        double read = best([&] { sink = sink + tanklefrost_read(TANKLEFROST_NEW_EDITION, m.data(), m.size(), rows.data(), rows.size()).amount; });
+        double rewrite = best([&] { sink = sink + tanklefrost_rewrite(TANKLEFROST_NEW_EDITION, m.data(), m.size(), rows.data(), rows.size(), output.data(), output.size()).amount; });
         lend(m);
         size_t many = slots(m, r.amount);
         double slot = many ? best([&] { slots(m, r.amount); }) / (double)many : 0;

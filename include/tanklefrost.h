@@ -20,6 +20,7 @@
  *    2  message ends too early                                        message length
  *    3  byte not allowed here                                         that byte
  *    4  content wrong: text, number in `H`, char, boolean             its first byte
+ *       size that the extension's id doesn't have                     the `E`
  *    5  over a limit                                                  the integer's mark, or the container's first byte
  *    6  negative, or 0 or over 8 dimensions                           the integer's mark, or the `[` after `#`
  *    7  too deep                                                      the opening mark
@@ -27,7 +28,7 @@
  *    9  bytes after the value                                         the first that isn't `N`
  *   10  address or name not there                                     0
  *   11  output longer than its room or than 1,048,576 bytes           0
- *   12  rows don't fit the request                                    0
+ *   12  rows don't fit the request; no edition has that number        0
  *   13  schema form not built                                         the `H` or `[`
  */
 #ifndef TANKLEFROST_H
@@ -58,11 +59,19 @@ enum {
     TANKLEFROST_NOT_BUILT = 13
 };
 
+/* The editions. The old series' messages have no extensions: there an `E` is refused with 3. The new series' messages have them, and all
+ * else is read as by the old edition. The caller names the edition in each call that reads a message to rows or rewrites it; any other
+ * number, 0 too, is refused with 12 at 0 before the message is looked at. The panel's calls name none: they use the new edition. */
+enum {
+    TANKLEFROST_OLD_EDITION = 1,
+    TANKLEFROST_NEW_EDITION = 2
+};
+
 /* A message's highest length, and the words of a row. A message of n bytes has at most n rows. */
 #define TANKLEFROST_LIMIT 1048576
 #define TANKLEFROST_ROW_WORDS 8
 
-/* ---- The panel: calls with the message only. Rows count as enough, so none of them answers 8.
+/* ---- The panel: calls with the message only, by the new edition. Rows count as enough, so none of them answers 8.
  *
  * They use no row table and less than 64 KiB of stack, and their time grows with the message's length alone. Each answers one 64-bit
  * number. The functions below take its parts out:
@@ -101,24 +110,33 @@ struct tanklefrost_reading {
     size_t amount;
 };
 
-/* Reads a message into lent rows: number, place and rows used. A table of row_words words has row_words / 8 rows; tokens that don't
- * fit are refused with 8. The rows are filled from the first on and all other words are zero, on refusal all words are.
+/* Reads a message by an edition into lent rows: number, place and rows used. A table of row_words words has row_words / 8 rows; tokens
+ * that don't fit are refused with 8. The rows are filled from the first on and all other words are zero, on refusal all words are.
+ * An edition that is neither TANKLEFROST_OLD_EDITION nor TANKLEFROST_NEW_EDITION is 12 at 0, whatever the message is.
  *
  * Words of a row: 0 kind, 1 mark, 2 first byte of the token, 3 first payload byte, 4 payload length, 5 count, 6 row after the token's
  * last descendant, 7 order.
  *
+ * An extension is one row of kind 13 and mark 69 (`E`): words 3 and 4 are its payload's first byte and length, and word 5 is its id, up to
+ * 4,294,967,295 (in all other rows word 5 is at most 1,048,576). The id's mark is the message's byte at word 2 + 1. Ids 1 to 10 have
+ * payloads of 4, 8, 12, 4, 4, 8, 8, 8, 16 and 16 bytes; another size is 4 at the `E`, before the payload's end is looked at. Other ids
+ * have any size. No call looks into a payload: the caller does.
+ *
  * NULL with length 0 for the message is the empty message: 2 at 0; for the rows it is a table of no rows: 8 where another number
  * doesn't come first. */
-struct tanklefrost_reading tanklefrost_read(const uint8_t *message, size_t message_length, uint32_t *rows, size_t row_words);
+struct tanklefrost_reading tanklefrost_read(
+    uint32_t edition, const uint8_t *message, size_t message_length, uint32_t *rows, size_t row_words);
 
-/* Rewrites a message to house form: number, place and bytes written. The message is read into the lent rows first, which then hold
- * its rows, as after tanklefrost_read. 11 if the house form is longer than output_length or than 1,048,576 bytes; it comes after all of
- * the reader's refusals. On refusal all rows and all output bytes are zero, else what wasn't filled.
+/* Rewrites a message by an edition to house form: number, place and bytes written. The message is read into the lent rows first, which
+ * then hold its rows, as after tanklefrost_read. 11 if the house form is longer than output_length or than 1,048,576 bytes; it comes after
+ * all of the reader's refusals. On refusal all rows and all output bytes are zero, else what wasn't filled. Any other edition's number is
+ * 12 at 0, as in tanklefrost_read. An extension keeps its id, the id's mark and its payload.
  *
  * NULL with length 0 for the message is the empty message: 2 at 0; for the rows, a table of no rows: 8 where another number doesn't
  * come first; for the output, no room: 11 after that. */
 struct tanklefrost_reading tanklefrost_rewrite(
-    const uint8_t *message, size_t message_length, uint32_t *rows, size_t row_words, uint8_t *output, size_t output_length);
+    uint32_t edition, const uint8_t *message, size_t message_length, uint32_t *rows, size_t row_words, uint8_t *output,
+    size_t output_length);
 
 /* ---- The calls over rows. They change nothing.
  *
@@ -186,8 +204,8 @@ static inline double tanklefrost_double(uint64_t bits)
     return value;
 }
 
-/* The value at a row of kind 1. 12 for another row, a mark or length that doesn't fit it, bytes outside the message, or a char or
- * boolean that the reader would refuse. */
+/* The value at a row of kind 1. 12 for another row (an extension's too), a mark or length that doesn't fit it, bytes outside the message,
+ * or a char or boolean that the reader would refuse. */
 struct tanklefrost_scalar tanklefrost_value_at_row(
     const uint8_t *message, size_t message_length, const uint32_t *rows, size_t row_words, size_t row);
 
@@ -201,8 +219,8 @@ struct tanklefrost_scalar tanklefrost_value_in_table(
     const uint8_t *message, size_t message_length, const uint32_t *rows, size_t row_words, size_t row, size_t leaf,
     const size_t *indexes, size_t index_count);
 
-/* The first byte and the length of the text at a row of kind 2 (`S`), 3 (`H`) or 4 (a key). 12 for another row, a mark that doesn't
- * fit it, or bytes outside the message. */
+/* The first byte and the length of the text at a row of kind 2 (`S`), 3 (`H`) or 4 (a key). 12 for another row (an extension's too), a
+ * mark that doesn't fit it, or bytes outside the message. */
 struct tanklefrost_place tanklefrost_text_at_row(
     const uint8_t *message, size_t message_length, const uint32_t *rows, size_t row_words, size_t row);
 

@@ -1,4 +1,4 @@
-/* The checked examples of document 01. */
+/* The checked examples of document 01, by both editions. */
 #include "lent.h"
 #include "tanklefrost.h"
 
@@ -15,20 +15,27 @@ static void message(const char *hex)
 static int answers(const char *hex, uint32_t number, size_t place)
 {
     uint64_t a;
-    struct tanklefrost_reading r;
+    struct tanklefrost_reading o, r;
     message(hex);
     a = tanklefrost_number_and_place(m.at, m.size);
-    r = tanklefrost_read(m.at, m.size, rows, sizeof rows / sizeof *rows);
-    return tanklefrost_answer_number(a) == number && tanklefrost_answer_place(a) == place && r.number == number && r.place == place;
+    o = tanklefrost_read(TANKLEFROST_OLD_EDITION, m.at, m.size, rows, sizeof rows / sizeof *rows);
+    r = tanklefrost_read(TANKLEFROST_NEW_EDITION, m.at, m.size, rows, sizeof rows / sizeof *rows);
+    return tanklefrost_answer_number(a) == number && tanklefrost_answer_place(a) == place && r.number == number && r.place == place
+        && o.number == number && o.place == place;
 }
 
 /* The first rows are these. */
-static int has_rows(const uint32_t *expected, size_t count)
+static int has_rows_by(uint32_t edition, const uint32_t *expected, size_t count)
 {
     uint64_t a = tanklefrost_rows_needed(m.at, m.size);
-    struct tanklefrost_reading r = tanklefrost_read(m.at, m.size, rows, sizeof rows / sizeof *rows);
+    struct tanklefrost_reading r = tanklefrost_read(edition, m.at, m.size, rows, sizeof rows / sizeof *rows);
     return r.number == 0 && r.amount == count && tanklefrost_answer_number(a) == 0 && tanklefrost_answer_rows(a) == count
         && memcmp(rows, expected, count * TANKLEFROST_ROW_WORDS * sizeof *rows) == 0;
+}
+
+static int has_rows(const uint32_t *expected, size_t count)
+{
+    return has_rows_by(TANKLEFROST_OLD_EDITION, expected, count) && has_rows_by(TANKLEFROST_NEW_EDITION, expected, count);
 }
 
 /* The slot at (1,0) of the packed array, and its value. */

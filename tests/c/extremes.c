@@ -45,7 +45,7 @@ static void high_numbers(void)
     CHECK(tanklefrost_slot(table, sizeof table, SIZE_MAX, 0, 0) == TANKLEFROST_NOT_THERE);
     CHECK(tanklefrost_slot(table, sizeof table, 0, SIZE_MAX, 0) == TANKLEFROST_NOT_THERE);
     CHECK(tanklefrost_slot(table, sizeof table, 0, 0, SIZE_MAX) == TANKLEFROST_NOT_THERE);
-    CHECK(tanklefrost_read(table, sizeof table, rows, 32).number == 0);
+    CHECK(tanklefrost_read(TANKLEFROST_NEW_EDITION, table, sizeof table, rows, 32).number == 0);
     CHECK(is_place(tanklefrost_table_slot(rows, 32, sizeof table, 0, 3, &zero, 1), 0, 11, 1));
     CHECK(is_place(tanklefrost_table_slot(rows, 32, sizeof table, SIZE_MAX, 3, &zero, 1), TANKLEFROST_ROWS_DONT_FIT, 0, 0));
     CHECK(is_place(tanklefrost_table_slot(rows, 32, sizeof table, 0, SIZE_MAX, &zero, 1), TANKLEFROST_ROWS_DONT_FIT, 0, 0));
@@ -57,7 +57,7 @@ static void high_numbers(void)
     CHECK(is_refused(tanklefrost_value_at_row(table, sizeof table, rows, 32, SIZE_MAX), TANKLEFROST_ROWS_DONT_FIT));
     m = tanklefrost_lookup(table, sizeof table, rows, 32, SIZE_MAX, (const uint8_t *)"a", 1);
     CHECK(m.number == TANKLEFROST_ROWS_DONT_FIT && m.row == 0);
-    CHECK(tanklefrost_read(array, sizeof array, rows, 32).number == 0);
+    CHECK(tanklefrost_read(TANKLEFROST_NEW_EDITION, array, sizeof array, rows, 32).number == 0);
     CHECK(is_place(tanklefrost_packed_slot(rows, 32, sizeof array, 0, &most, 1), TANKLEFROST_NOT_THERE, 0, 0));
     CHECK(is_place(tanklefrost_packed_slot(rows, 32, 0, 0, &zero, 1), TANKLEFROST_ROWS_DONT_FIT, 0, 0));
     CHECK(is_place(tanklefrost_packed_slot(rows, 32, UINT32_MAX, 0, &zero, 1), 0, 6, 1));
@@ -89,7 +89,7 @@ static void changed_rows(uint8_t *bytes, uint32_t *words, size_t row_words)
     static const uint8_t table[] = {'[', '$', '{', 'U', 1, 'a', 'U', 'U', 1, 'b', 'S', 'U', 2, '}', '#', 'U', 2, 5, 'x', 'y', 6, 'z', 'w'};
     size_t i, changes = chance(4);
     memcpy(bytes, table, sizeof table);
-    CHECK(tanklefrost_read(table, sizeof table, words, row_words).number == 0);
+    CHECK(tanklefrost_read(TANKLEFROST_NEW_EDITION, table, sizeof table, words, row_words).number == 0);
     for (i = 0; i < changes; i++) {
         words[chance((uint32_t)row_words)] = chance(2) == 0 ? chance(70) : UINT32_MAX - chance(3);
     }
@@ -97,7 +97,7 @@ static void changed_rows(uint8_t *bytes, uint32_t *words, size_t row_words)
 
 static void made_up(int at_end)
 {
-    static const uint32_t marks[] = {'[', '{', 'S', 'U', 'I', 'T', 'Z', 'H', 'd', 'C'};
+    static const uint32_t marks[] = {'[', '{', 'S', 'U', 'I', 'T', 'Z', 'H', 'd', 'C', 'E'};
     uint8_t bytes[64];
     uint32_t words[8 * TANKLEFROST_ROW_WORDS];
     size_t indexes[2], i, count = chance(3), row = chance(9), leaf = chance(9);
@@ -111,8 +111,8 @@ static void made_up(int at_end)
     for (i = 0; i < sizeof words / sizeof *words; i++) {
         size_t word = i % TANKLEFROST_ROW_WORDS, own = i / TANKLEFROST_ROW_WORDS;
         words[i] = chance(20) == 0 ? UINT32_MAX - chance(3)
-            : word == 0 ? 1 + chance(12)
-            : word == 1 ? marks[chance(10)]
+            : word == 0 ? 1 + chance(13)
+            : word == 1 ? marks[chance(11)]
             : word == 6 ? (uint32_t)own + chance(4)
             : word == 7 ? chance(3)
                         : chance(70);

@@ -5,7 +5,7 @@ int main()
 {
     const uint8_t message[] = {'[', 'Z', ']'};
     uint32_t rows[16];
-    tanklefrost_reading a = tanklefrost_read(message, sizeof message, rows, 16);
+    tanklefrost_reading a = tanklefrost_read(TANKLEFROST_NEW_EDITION, message, sizeof message, rows, 16);
     uint64_t needed = tanklefrost_rows_needed(message, sizeof message);
     tanklefrost_scalar v = tanklefrost_value_at_row(message, sizeof message, rows, 16, 1);
     return a.number == TANKLEFROST_DONE && a.amount == 2 && tanklefrost_answer_rows(needed) == 2 && v.number == 0 && v.kind == 1 && v.value_case == TANKLEFROST_NULL ? 0 : 1;

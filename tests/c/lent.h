@@ -11,6 +11,8 @@
 #include <string.h>
 #include <sys/mman.h>
 
+#include "tanklefrost.h"
+
 static unsigned long checks, failed;
 
 #define CHECK(what) check((what), #what, __FILE__, __LINE__)
@@ -81,6 +83,22 @@ static inline void take_back(struct lent l)
     munmap(l.map, l.room + 2 * PAGE);
 }
 
+/* Whether an answer is this one. */
+static inline int is_reading(struct tanklefrost_reading a, uint32_t number, size_t place, size_t amount)
+{
+    return a.number == number && a.place == place && a.amount == amount;
+}
+
+/* How many lent bytes from one on are not zero. */
+static inline size_t left_over(const struct lent *l, size_t from)
+{
+    size_t i, n = 0;
+    for (i = from; i < l->size; i++) {
+        n += l->bytes[i] != 0;
+    }
+    return n;
+}
+
 /* The next word of a line, cut off; NULL at its end. */
 static inline char *word(char **line)
 {
@@ -93,6 +111,16 @@ static inline char *word(char **line)
         *(*line)++ = 0;
     }
     return w;
+}
+
+/* The edition that a line names: `o` the old, `n` the new. */
+static inline uint32_t edition_of(const char *letter)
+{
+    if (strcmp(letter, "o") != 0 && strcmp(letter, "n") != 0) {
+        printf("no edition: %.20s\n", letter);
+        exit(2);
+    }
+    return *letter == 'o' ? TANKLEFROST_OLD_EDITION : TANKLEFROST_NEW_EDITION;
 }
 
 /* Bytes in hex, in words with a space between two; `-` for none, and `0102*9` for nine times these. They are put after those that are

@@ -3,13 +3,14 @@
 #include "slot_by_rows.h"
 #include "tanklefrost.h"
 
-/* The three calls against the calls with a row table, for the tables, leaves and records that are there and some that are not. */
+/* The three calls against the calls with a row table by the new edition, for the tables, leaves and records that are there and some that are not. */
 static void against_rows(const uint8_t *message, size_t length, int at_end)
 {
     uint64_t place = tanklefrost_number_and_place(message, length);
     uint64_t needed = tanklefrost_rows_needed(message, length);
     struct lent rows = lend(NULL, length * TANKLEFROST_ROW_WORDS * sizeof(uint32_t), at_end);
-    struct tanklefrost_reading read = tanklefrost_read(message, length, (uint32_t *)rows.bytes, length * TANKLEFROST_ROW_WORDS);
+    struct tanklefrost_reading read =
+        tanklefrost_read(TANKLEFROST_NEW_EDITION, message, length, (uint32_t *)rows.bytes, length * TANKLEFROST_ROW_WORDS);
     size_t table, leaf, record;
 
     CHECK(tanklefrost_answer_number(place) == read.number);

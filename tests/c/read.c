@@ -14,13 +14,13 @@ static void show(char *into, size_t room, struct tanklefrost_reading a, const ui
     snprintf(into + n, room - n, "%s\n", shown < a.amount ? " / ..." : "");
 }
 
-/* With so many rows lent and a remainder, which hold another word before. */
-static void reads(const struct bytes *m, size_t lent_rows, size_t remainder, int at_end, const char *expected)
+/* By an edition, with so many rows lent and a remainder, which hold another word before. */
+static void reads(uint32_t edition, const struct bytes *m, size_t lent_rows, size_t remainder, int at_end, const char *expected)
 {
     static char answer[1 << 20];
     size_t words = lent_rows * TANKLEFROST_ROW_WORDS + remainder, i, left = 0;
     struct lent l = lend(m->at, m->size, at_end), rows = lend(NULL, words * sizeof(uint32_t), at_end);
-    struct tanklefrost_reading a = tanklefrost_read(l.bytes, l.size, (uint32_t *)rows.bytes, words);
+    struct tanklefrost_reading a = tanklefrost_read(edition, l.bytes, l.size, (uint32_t *)rows.bytes, words);
 
     show(answer, sizeof answer, a, (uint32_t *)rows.bytes);
     CHECK(strcmp(answer, expected) == 0);
@@ -40,17 +40,18 @@ int main(void)
     size_t lines = 0;
 
     while (fgets(line, sizeof line, in) != NULL && fgets(expected, sizeof expected, out) != NULL) {
-        char *rest = line, *w = word(&rest);
-        size_t lent_rows = strtoul(w, NULL, 10);
+        char *rest = line, *w;
+        uint32_t edition = edition_of(word(&rest));
+        size_t lent_rows = strtoul(word(&rest), NULL, 10);
         m.size = 0;
         while ((w = word(&rest)) != NULL) {
             put_hex(&m, w);
         }
-        reads(&m, lent_rows, lines % TANKLEFROST_ROW_WORDS, 0, expected);
-        reads(&m, lent_rows, (lines + 5) % TANKLEFROST_ROW_WORDS, 1, expected);
+        reads(edition, &m, lent_rows, lines % TANKLEFROST_ROW_WORDS, 0, expected);
+        reads(edition, &m, lent_rows, (lines + 5) % TANKLEFROST_ROW_WORDS, 1, expected);
         lines++;
     }
-    CHECK(lines > 3000 && feof(in));
+    CHECK(lines > 4700 && feof(in));
     fclose(in);
     fclose(out);
     free(m.at);

@@ -3,24 +3,15 @@
 #include "lent.h"
 #include "tanklefrost.h"
 
-static size_t left_over(const struct lent *l, size_t from)
-{
-    size_t i, n = 0;
-    for (i = from; i < l->size; i++) {
-        n += l->bytes[i] != 0;
-    }
-    return n;
-}
-
-/* With so many rows and bytes of room lent: the answer, the rows as the reader leaves them, and zeros after what was written. */
+/* By an edition, with so many rows and bytes of room lent: the answer, the rows as the reader leaves them, and zeros after what was written. */
 static struct tanklefrost_reading rewrite_in(
-    const uint8_t *message, size_t length, size_t lent_rows, size_t output_room, int at_end, uint8_t *written)
+    uint32_t edition, const uint8_t *message, size_t length, size_t lent_rows, size_t output_room, int at_end, uint8_t *written)
 {
     size_t words = lent_rows * TANKLEFROST_ROW_WORDS;
     struct lent l = lend(message, length, at_end), rows = lend(NULL, words * sizeof(uint32_t), at_end), output = lend(NULL, output_room, at_end);
     struct lent same = lend(NULL, words * sizeof(uint32_t), at_end);
-    struct tanklefrost_reading a = tanklefrost_rewrite(l.bytes, l.size, (uint32_t *)rows.bytes, words, output.bytes, output.size);
-    struct tanklefrost_reading r = tanklefrost_read(l.bytes, l.size, (uint32_t *)same.bytes, words);
+    struct tanklefrost_reading a = tanklefrost_rewrite(edition, l.bytes, l.size, (uint32_t *)rows.bytes, words, output.bytes, output.size);
+    struct tanklefrost_reading r = tanklefrost_read(edition, l.bytes, l.size, (uint32_t *)same.bytes, words);
 
     CHECK(a.number == (r.number != 0 ? r.number : a.number == 0 ? 0 : TANKLEFROST_OUTPUT_TOO_LONG));
     CHECK(a.place == (a.number == r.number ? r.place : 0));
@@ -41,10 +32,10 @@ static struct tanklefrost_reading rewrite_in(
     return a;
 }
 
-/* With rows enough. */
+/* By the new edition, with rows enough. */
 static struct tanklefrost_reading rewrite(const uint8_t *message, size_t length, size_t output_room, int at_end, uint8_t *written)
 {
-    return rewrite_in(message, length, length, output_room, at_end, written);
+    return rewrite_in(TANKLEFROST_NEW_EDITION, message, length, length, output_room, at_end, written);
 }
 
 /* The lines of crates/house: number, place, bytes written, and the house form. */
@@ -57,8 +48,9 @@ static void stored_lines(void)
     size_t lines = 0;
 
     while (fgets(line, sizeof line, in) != NULL && fgets(expected, sizeof expected, out) != NULL) {
-        char *rest = line, *answer = expected, *w = word(&rest);
-        size_t lent_rows = strtoul(w, NULL, 10), room = strtoul(word(&rest), NULL, 10);
+        char *rest = line, *answer = expected, *w;
+        uint32_t edition = edition_of(word(&rest));
+        size_t lent_rows = strtoul(word(&rest), NULL, 10), room = strtoul(word(&rest), NULL, 10);
         uint32_t number = (uint32_t)strtoul(word(&answer), NULL, 10);
         size_t place = strtoul(word(&answer), NULL, 10), amount = strtoul(word(&answer), NULL, 10);
         struct tanklefrost_reading a;
@@ -70,12 +62,12 @@ static void stored_lines(void)
         while ((w = word(&answer)) != NULL) {
             put_hex(&house, w);
         }
-        a = rewrite_in(m.at, m.size, lent_rows, room, lines % 2 == 0, written);
+        a = rewrite_in(edition, m.at, m.size, lent_rows, room, lines % 2 == 0, written);
         CHECK(a.number == number && a.place == place && a.amount == amount && house.size == amount);
         CHECK(a.amount == 0 || (house.size == a.amount && memcmp(written, house.at, a.amount) == 0));
         lines++;
     }
-    CHECK(lines > 2000 && feof(in));
+    CHECK(lines > 2700 && feof(in));
     fclose(in);
     fclose(out);
     free(m.at);

@@ -1,4 +1,4 @@
-/* Reads to rows, counts tables and leaves there, and asks for the slot. */
+/* Reads to rows by the new edition, counts tables and leaves there, and asks for the slot. */
 #include "slot_by_rows.h"
 
 #include <stdlib.h>
@@ -16,7 +16,7 @@ uint64_t slot_by_rows(const uint8_t *message, size_t length, size_t table, size_
     if (rows == NULL) {
         exit(2);
     }
-    read = tanklefrost_read(message, length, rows, words);
+    read = tanklefrost_read(TANKLEFROST_NEW_EDITION, message, length, rows, words);
     if (read.number != 0) {
         free(rows);
         return read.number;

@@ -11,7 +11,7 @@ enum { EXTRA = 1 << 20 };
 #else
 enum { EXTRA = 0 };
 #endif
-/* The promise is 64 KiB; about 23 KiB are measured, and a test fails that finds much more. */
+/* The promise is 64 KiB; about 24 KiB are measured, and a test fails that finds much more. */
 enum { STACK = 64 * 1024, EXPECTED = 28 * 1024, LEVELS = 32, SCHEMA_LEVELS = 8 };
 
 static struct bytes m;
@@ -49,13 +49,13 @@ static void *slot(void *top)
 static void *read_rows(void *top)
 {
     used = (size_t)((unsigned char *)&top - stack);
-    return tanklefrost_read(m.at, m.size, rows, sizeof rows / sizeof *rows).number == 0 ? top : NULL;
+    return tanklefrost_read(TANKLEFROST_NEW_EDITION, m.at, m.size, rows, sizeof rows / sizeof *rows).number == 0 ? top : NULL;
 }
 
 static void *rewrite(void *top)
 {
     used = (size_t)((unsigned char *)&top - stack);
-    return tanklefrost_rewrite(m.at, m.size, rows, sizeof rows / sizeof *rows, output, sizeof output).number == 0 ? top : NULL;
+    return tanklefrost_rewrite(TANKLEFROST_NEW_EDITION, m.at, m.size, rows, sizeof rows / sizeof *rows, output, sizeof output).number == 0 ? top : NULL;
 }
 
 static size_t measure(void *(*call)(void *))

@@ -1,15 +1,27 @@
 // The calls over a message: the panel's, with the message only, reading to rows, and rewriting.
 use crate::answers::Reading;
 use crate::answers::reading_of;
+use crate::editions::Named;
+use crate::editions::edition_of;
+use rows::clear;
+use rows::clear_bytes;
 ghost use mathlib.Core.Path.{_≡_};
 ghost use lib.ListN.{length};
 ghost use Rattle.format.specs.Rows.{rowsIn};
-ghost use Rattle.format.specs.Read.{readInto, rowsUsed, wordsAfter};
-ghost use Rattle.format.specs.HouseForm.{rewrite as rewriteOf, bytesWritten, outputAfter, rewriteWordsAfter};
+ghost use Rattle.format.specs.Read.{rowsUsed, wordsAfter};
+ghost use Rattle.format.specs.HouseForm.{bytesWritten, outputAfter, rewriteWordsAfter};
 ghost use Rattle.format.specs.Panel.{numberAndPlace, rowsNeeded, panelSlot};
 ghost use Rattle.format.specs.Answers.{firstAndWidth};
 ghost use Rattle.panel.specs.Layout.{partsOf, numberAndPlaceParts, rowsParts, slotParts};
 ghost use Rattle.tanklefrost.specs.Answers.{readingFor};
+ghost use Rattle.tanklefrost.specs.Editions.{readNumbered, rewriteNumbered};
+
+// The answer where the number names no edition.
+const NO_EDITION: Reading = Reading {
+    number: 12,
+    place: 0,
+    amount: 0,
+};
 
 // The panel: number and place.
 #[no_mangle]
@@ -35,25 +47,40 @@ pub extern "C" fn tanklefrost_slot(message: &[u8], table: usize, leaf: usize, nu
     panel::slot(message, table, leaf, number)
 }
 
-// Reads a message into lent rows. What isn't filled is zero, on refusal all.
+// Reads a message into lent rows by an edition's number; a number that names none is 12. What isn't filled is zero, on refusal all.
 #[no_mangle]
-pub extern "C" fn tanklefrost_read(message: &[u8], rows: &mut [u32]) -> Reading
-    ensures answer { λ r. ⌜ r ≡ readingFor (rowsUsed (readInto (now (message .entry)) (now (rows .entry)))) ⌝ }
-    ensures words { λ _. ⌜ now (rows .exit) ≡ wordsAfter (length (now (rows .entry))) (readInto (now (message .entry)) (now (rows .entry))) ⌝ }
+pub extern "C" fn tanklefrost_read(edition: u32, message: &[u8], rows: &mut [u32]) -> Reading
+    ensures answer { λ r. ⌜ r ≡ readingFor (rowsUsed (readNumbered edition (now (message .entry)) (now (rows .entry)))) ⌝ }
+    ensures words { λ _. ⌜ now (rows .exit) ≡ wordsAfter (length (now (rows .entry))) (readNumbered edition (now (message .entry)) (now (rows .entry))) ⌝ }
 {
-    reading_of(reader::message::read(message, rows))
+    match edition_of(edition) {
+        Named::By(e) => reading_of(reader::message::read(e, message, rows)),
+        Named::Nothing => {
+            clear(rows);
+            NO_EDITION
+        }
+    }
 }
 
-// Rewrites a message to house form. The rows then hold the message's rows. What isn't filled of rows and output is zero, on refusal all.
+// Rewrites a message to house form by an edition's number; a number that names none is 12. The rows then hold the message's rows. What
+// isn't filled of rows and output is zero, on refusal all.
 #[no_mangle]
 pub extern "C" fn tanklefrost_rewrite(
+    edition: u32,
     message: &[u8],
     rows: &mut [u32],
     output: &mut [u8],
 ) -> Reading
-    ensures answer { λ r. ⌜ r ≡ readingFor (bytesWritten (rewriteOf (now (message .entry)) (rowsIn (now (rows .entry))) (length (now (output .entry))))) ⌝ }
-    ensures output { λ _. ⌜ now (output .exit) ≡ outputAfter (length (now (output .entry))) (rewriteOf (now (message .entry)) (rowsIn (now (rows .entry))) (length (now (output .entry)))) ⌝ }
-    ensures words { λ _. ⌜ now (rows .exit) ≡ rewriteWordsAfter (length (now (rows .entry))) (readInto (now (message .entry)) (now (rows .entry))) (rewriteOf (now (message .entry)) (rowsIn (now (rows .entry))) (length (now (output .entry)))) ⌝ }
+    ensures answer { λ r. ⌜ r ≡ readingFor (bytesWritten (rewriteNumbered edition (now (message .entry)) (rowsIn (now (rows .entry))) (length (now (output .entry))))) ⌝ }
+    ensures output { λ _. ⌜ now (output .exit) ≡ outputAfter (length (now (output .entry))) (rewriteNumbered edition (now (message .entry)) (rowsIn (now (rows .entry))) (length (now (output .entry)))) ⌝ }
+    ensures words { λ _. ⌜ now (rows .exit) ≡ rewriteWordsAfter (length (now (rows .entry))) (readNumbered edition (now (message .entry)) (now (rows .entry))) (rewriteNumbered edition (now (message .entry)) (rowsIn (now (rows .entry))) (length (now (output .entry)))) ⌝ }
 {
-    reading_of(rewriter::message::rewrite(message, rows, output))
+    match edition_of(edition) {
+        Named::By(e) => reading_of(rewriter::message::rewrite(e, message, rows, output)),
+        Named::Nothing => {
+            clear(rows);
+            clear_bytes(output);
+            NO_EDITION
+        }
+    }
 }
