@@ -1,5 +1,6 @@
 // Answers, and whether two are the same.
 use format::answers::Answer;
+use format::marks::EXTENSION;
 
 // An answer as numbers: number, place and rows used.
 pub struct Numbers {
@@ -24,6 +25,28 @@ pub fn numbers_of(a: Answer) -> Numbers {
     }
 }
 
+// Two answers that are compared, and the place where it is counted that they differ.
+pub struct Compared {
+    pub sort: usize,
+    pub a: Numbers,
+    pub b: Numbers,
+}
+
+impl Compared {
+    pub fn new(sort: usize, a: Numbers, b: Numbers) -> Compared {
+        Compared {
+            sort: sort,
+            a: a,
+            b: b,
+        }
+    }
+}
+
+// Whether an answer refuses a byte of the message that is an `E`.
+pub fn is_extension_refused(message: &[u8], a: Numbers) -> bool {
+    a.number == 3 && byte(message, a.place) == EXTENSION
+}
+
 // Whether two answers are the same.
 pub fn same(a: Numbers, b: Numbers) -> bool {
     a.number == b.number && a.place == b.place && a.used == b.used
@@ -42,6 +65,14 @@ pub fn same_words(a: &[u32], b: &[u32]) -> bool {
         i += 1;
     }
     true
+}
+
+// The byte at a place; 0 where there is none.
+fn byte(bytes: &[u8], i: usize) -> u8 {
+    if i < bytes.len() {
+        return bytes[i];
+    }
+    0
 }
 
 // The word at a place; 0 where there is none.

@@ -1,24 +1,41 @@
-// What is counted. Places in the list: how many messages, those in which the readers differ, the answers' checksum; from 16 on the
-// answers by number; from 32 on the accepted messages by what their rows have.
+// What is counted. Places in the list: how many messages; the faults, where the readers differ by the new edition or by the old, or
+// the editions differ; the answers' checksum; of the old edition the accepted messages, the refused ones, those refused at an `E`, and
+// those of these that the new edition accepts; from 16 on the new edition's answers by number; from 32 on its accepted messages by what
+// their rows have.
 use crate::answers::Numbers;
 use crate::answers::word;
 
 pub const MESSAGES: usize = 0;
 
-pub const DIFFERENT: usize = 1;
+pub const BY_NEW: usize = 1;
 
-pub const CHECKSUM: usize = 2;
+pub const BY_OLD: usize = 2;
+
+pub const EDITIONS: usize = 3;
+
+pub const CHECKSUM: usize = 4;
+
+pub const OLD_ACCEPTED: usize = 5;
+
+pub const OLD_REFUSED: usize = 6;
+
+pub const AT_EXTENSION: usize = 7;
+
+pub const NEW_ACCEPTED: usize = 8;
 
 pub const BY_NUMBER: usize = 16;
 
 pub const BY_KIND: usize = 32;
 
-// What a row may have beside a kind from 1 to 12: the orders, and a table by columns.
-const SLOWEST: u32 = 13;
+// What a row may have beside a kind from 1 to 13: the orders, and a table by columns.
+const SLOWEST: u32 = 16;
 
-const FASTEST: u32 = 14;
+const FASTEST: u32 = 17;
 
-const BY_COLUMNS: u32 = 15;
+const BY_COLUMNS: u32 = 18;
+
+// The number after these.
+const BITS: u32 = 19;
 
 // The count at a place.
 pub fn count(counts: &[u64], at: usize) -> u64 {
@@ -64,9 +81,9 @@ fn checksum(sum: u64, a: Numbers, rows: &[u32]) -> u64 {
     mixed_words(mixed(place, a.used as u64), rows, a.used)
 }
 
-// One bit of 16.
+// One bit of 32.
 fn bit(n: u32) -> u32 {
-    1 << (n % 16)
+    1 << (n % 32)
 }
 
 // A bit if a condition holds.
@@ -106,14 +123,14 @@ fn all_bits(rows: &[u32], used: usize) -> u32 {
 // One more at the place of a thing, if it is among the bits.
 fn add_if(counts: &mut [u64], bits: u32, n: u32) {
     if bits & bit(n) != 0 {
-        add(counts, BY_KIND + (n % 16) as usize);
+        add(counts, BY_KIND + (n % 32) as usize);
     }
 }
 
 // Counts an accepted message under each thing that a row of it has.
 fn add_bits(counts: &mut [u64], bits: u32) {
     let mut n: u32 = 1;
-    while n < 16 {
+    while n < BITS {
         add_if(counts, bits, n);
         n += 1;
     }
@@ -127,11 +144,38 @@ fn by_number(number: u32) -> usize {
     BY_NUMBER + 14
 }
 
-// Counts an answer.
+// Takes an answer and its rows into the checksum.
+fn mix(counts: &mut [u64], a: Numbers, rows: &[u32]) {
+    let sum = checksum(count(counts, CHECKSUM), a, rows);
+    set(counts, CHECKSUM, sum);
+}
+
+// The place of an answer by the old edition.
+fn by_verdict(number: u32) -> usize {
+    if number == 0 {
+        return OLD_ACCEPTED;
+    }
+    OLD_REFUSED
+}
+
+// Counts an answer by the old edition.
+pub fn add_old(counts: &mut [u64], a: Numbers, rows: &[u32]) {
+    add(counts, by_verdict(a.number));
+    mix(counts, a, rows);
+}
+
+// Counts a message that the old edition refuses at an `E`, with the answer by the new one.
+pub fn add_extension(counts: &mut [u64], a: Numbers) {
+    add(counts, AT_EXTENSION);
+    if a.number == 0 {
+        add(counts, NEW_ACCEPTED);
+    }
+}
+
+// Counts an answer by the new edition.
 pub fn add_answer(counts: &mut [u64], a: Numbers, rows: &[u32]) {
     add(counts, MESSAGES);
     add(counts, by_number(a.number));
     add_bits(counts, all_bits(rows, a.used));
-    let sum = checksum(count(counts, CHECKSUM), a, rows);
-    set(counts, CHECKSUM, sum);
+    mix(counts, a, rows);
 }

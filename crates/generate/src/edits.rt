@@ -8,8 +8,8 @@ use format::marks::Mark;
 
 // Draws a mark.
 pub fn mark(pen: Pen) -> Pen {
-    let mut drawn = pen.draw(25);
-    drawn.value = letter(b"[]{}$#ZTFiUIulmLMhdDCBSHN", drawn.value) as u32;
+    let mut drawn = pen.draw(26);
+    drawn.value = letter(b"[]{}$#ZTFiUIulmLMhdDCBSHNE", drawn.value) as u32;
     drawn
 }
 

@@ -1,4 +1,4 @@
-// Integer records: lengths, counts and dimensions.
+// Integer records: lengths, counts, dimensions and ids.
 use crate::numbers::low;
 use crate::pen::Pen;
 use crate::pen::letter;
@@ -12,7 +12,8 @@ fn largest(mark: u8) -> u32 {
         b'U' => 255,
         b'I' => 32767,
         b'u' => 65535,
-        _ => 0x7FFF_FFFF,
+        b'l' => 0x7FFF_FFFF,
+        _ => 0xFFFF_FFFF,
     }
 }
 
@@ -33,7 +34,7 @@ pub fn fitting(pen: Pen, number: u32) -> Pen {
 }
 
 // Writes an integer record of the mark.
-fn record(buffer: &mut [u8], pen: Pen, mark: u8, number: u64) -> Pen {
+pub fn record(buffer: &mut [u8], pen: Pen, mark: u8, number: u64) -> Pen {
     let after = pen.put(buffer, mark);
     put_number(buffer, after, number, Mark(mark).width())
 }

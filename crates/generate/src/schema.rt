@@ -84,12 +84,13 @@ fn text(buffer: &mut [u8], leaves: &mut [u32], pen: Pen) -> Pen {
 
 // Writes a kind that is refused.
 fn wrong(buffer: &mut [u8], pen: Pen) -> Pen {
-    let drawn = pen.draw(6);
+    let drawn = pen.draw(7);
     let choice = drawn.value;
     match choice {
         0 | 1 => drawn.put(buffer, b'H'),
         2 | 3 => drawn.put(buffer, b'[').put(buffer, b'$'),
         4 => drawn.put(buffer, b'N'),
+        5 => drawn.put(buffer, b'E'),
         _ => drawn.put(buffer, b'F'),
     }
 }

@@ -1,4 +1,5 @@
 // Values. Arrays and objects that are open are kept in a list: an entry is the form, and the members left to write.
+use crate::extensions::extension;
 use crate::integers::integer;
 use crate::numbers::less;
 use crate::numbers::low;
@@ -28,14 +29,14 @@ const COUNTED_OBJECT: u32 = 3;
 // The most levels, unless faults are written.
 const LEVELS: u32 = 32;
 
-// Where a message is long enough: from there on it has scalars alone.
+// Where a message is long enough: from there on it has scalars, texts, numbers and extensions alone.
 const LONG: usize = 300;
 
 // The steps in which a message is written.
 const STEPS: u32 = 400;
 
 // Writes elements of a mark.
-fn elements(buffer: &mut [u8], pen: Pen, mark: u8, count: u32) -> Pen {
+pub fn elements(buffer: &mut [u8], pen: Pen, mark: u8, count: u32) -> Pen {
     let mut after = pen;
     let mut left = count;
     while 0 < left {
@@ -45,10 +46,16 @@ fn elements(buffer: &mut [u8], pen: Pen, mark: u8, count: u32) -> Pen {
     after
 }
 
-// Draws a type.
+// Draws a type; as a fault the mark of an extension, which is none.
 fn type_mark(pen: Pen) -> Pen {
-    let mut drawn = pen.draw(16);
-    drawn.value = letter(b"iUIulmLMhdDCBCCU", drawn.value) as u32;
+    let slip = pen.slip(60);
+    let mut drawn = slip.draw(16);
+    let mark = letter(b"iUIulmLMhdDCBCCU", drawn.value);
+    drawn.value = if slip.value == 1 {
+        b'E' as u32
+    } else {
+        mark as u32
+    };
     drawn
 }
 
@@ -150,22 +157,23 @@ fn closed(buffer: &mut [u8], pen: Pen, choice: u32) -> Pen {
         0 | 1 | 2 | 3 => token::scalar(buffer, pen),
         4 | 5 => token::text(buffer, pen),
         6 => numeral(buffer, pen),
-        7 => typed_object(buffer, pen),
-        8 | 9 | 10 => packed(buffer, pen),
+        7 | 8 => extension(buffer, pen),
+        9 => typed_object(buffer, pen),
+        10 | 11 | 12 => packed(buffer, pen),
         _ => tables::table(buffer, pen),
     }
 }
 
 // Writes a value: an array or an object while some are to be opened, or now and then.
 fn value(buffer: &mut [u8], stack: &mut [u32], pen: Pen) -> Pen {
-    let drawn = pen.draw(20);
+    let drawn = pen.draw(22);
     if 0 < pen.nest {
         return open(buffer, stack, drawn);
     }
     if LONG < pen.at || LEVELS <= pen.open {
-        return closed(buffer, drawn, drawn.value % 7);
+        return closed(buffer, drawn, drawn.value % 9);
     }
-    if 14 < drawn.value {
+    if 16 < drawn.value {
         return open(buffer, stack, drawn);
     }
     closed(buffer, drawn, drawn.value)

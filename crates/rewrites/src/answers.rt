@@ -1,5 +1,6 @@
 // Answers, and the calls that give them: each over words and bytes that are not zero.
 use format::answers::Answer;
+use format::answers::Edition;
 use memory::fill_bytes;
 use memory::fill_words;
 
@@ -44,18 +45,18 @@ pub fn is_refused(a: Numbers, number: u32, place: usize) -> bool {
 // What the reader answers.
 pub fn by_reader(message: &[u8], rows: &mut [u32]) -> Numbers {
     fill_words(rows, 0xAAAA_AAAA);
-    numbers_of(reader::message::read(message, rows))
+    numbers_of(reader::message::read(Edition::New, message, rows))
 }
 
 // What the second reader answers.
 pub fn by_second(message: &[u8], rows: &mut [u32]) -> Numbers {
     fill_words(rows, 0x5555_5555);
-    numbers_of(second::read(message, rows))
+    numbers_of(second::read(Edition::New, message, rows))
 }
 
 // What the rewriter answers.
 pub fn by_rewriter(message: &[u8], rows: &mut [u32], output: &mut [u8]) -> Numbers {
     fill_words(rows, 0x3333_3333);
     fill_bytes(output, 0x33);
-    numbers_of(rewriter::message::rewrite(message, rows, output))
+    numbers_of(rewriter::message::rewrite(Edition::New, message, rows, output))
 }

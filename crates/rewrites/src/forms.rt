@@ -1,6 +1,7 @@
 // Whether an accepted message is in house form, as its rows tell: the smallest mark of every length, count and dimension; a count in
 // every array and object, and no type; and no more bytes than these, marks and payloads take, so no `N` and no longer vector.
 use crate::tally;
+use format::marks::Mark;
 use memory::byte;
 use memory::sum;
 use rows::Row;
@@ -51,8 +52,14 @@ fn leaf_bytes(r: Row) -> usize {
     1
 }
 
+// The bytes of an extension before its payload: the `E`, the id with its own mark, the length.
+fn extension_bytes(form: &[u8], r: Row) -> usize {
+    let mark = byte(form, sum(r.first as usize, 1));
+    sum(2 + integer_bytes(r.extent), Mark(mark).width())
+}
+
 // The bytes of a token, without those of the tokens below it and without its payload.
-fn header_bytes(r: Row) -> usize {
+fn header_bytes(form: &[u8], r: Row) -> usize {
     let kind = r.kind;
     match kind {
         1 => 1,
@@ -65,6 +72,7 @@ fn header_bytes(r: Row) -> usize {
         8 => 3 + shape_bytes(r),
         9 => leaf_bytes(r),
         12 => integer_bytes(r.count),
+        13 => extension_bytes(form, r),
         _ => 2,
     }
 }
@@ -79,6 +87,7 @@ fn payload_bytes(r: Row) -> usize {
         4 => r.extent as usize,
         7 => r.extent as usize,
         8 => r.extent as usize,
+        13 => r.extent as usize,
         _ => 0,
     }
 }
@@ -113,6 +122,7 @@ fn is_smallest(form: &[u8], r: Row) -> bool {
         8 => r.order != 0 || is_before(form, r.payload, r.count),
         9 => r.mark != 83 || is_after(form, r.first, 1, r.extent),
         12 => is_after(form, r.first, 0, r.count),
+        13 => is_before(form, r.payload, r.extent),
         _ => true,
     }
 }
@@ -120,7 +130,7 @@ fn is_smallest(form: &[u8], r: Row) -> bool {
 // Looks at a row; answers the bytes of its token.
 fn one(counts: &mut [u64], form: &[u8], r: Row) -> usize {
     tally::expect(counts, tally::FORM, is_smallest(form, r));
-    sum(header_bytes(r), payload_bytes(r))
+    sum(header_bytes(form, r), payload_bytes(r))
 }
 
 // Looks at all rows used.

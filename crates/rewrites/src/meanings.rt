@@ -1,6 +1,10 @@
-// Whether two messages have the same meaning, as document 01 says it: row by row, word by word, and the bytes of the payloads.
+// Whether two messages have the same meaning, as document 01 and request No. 1 say it: row by row, word by word, and the bytes of the payloads and
+// of the ids.
 use crate::tally;
+use format::marks::Mark;
+use memory::byte;
 use memory::same_part;
+use memory::sum;
 use rows::Row;
 use rows::load;
 
@@ -19,9 +23,9 @@ fn extent_counts(kind: u32) -> bool {
     kind != 5 && kind != 6 && kind != 12
 }
 
-// Whether it has a payload whose bytes have a meaning: scalars, texts, keys, packed arrays and tables.
+// Whether it has a payload whose bytes have a meaning: scalars, texts, keys, packed arrays, tables and extensions.
 fn payload_counts(kind: u32) -> bool {
-    1 <= kind && kind <= 4 || kind == 7 || kind == 8
+    1 <= kind && kind <= 4 || kind == 7 || kind == 8 || kind == 13
 }
 
 // Whether two rows are the same in the words that every kind has: kind, count, link and order.
@@ -47,6 +51,17 @@ fn same_payload(message: &[u8], a: Row, form: &[u8], b: Row) -> bool {
     a.extent == b.extent && same_part(message, first, form, other, a.extent as usize)
 }
 
+// Whether an extension's id has the same bytes: its mark, which stands after the `E`, and its number.
+fn same_id(message: &[u8], a: Row, form: &[u8], b: Row) -> bool {
+    if a.kind != 13 {
+        return true;
+    }
+    let first = sum(a.first as usize, 1);
+    let other = sum(b.first as usize, 1);
+    let bytes = sum(1, Mark(byte(message, first)).width());
+    same_part(message, first, form, other, bytes)
+}
+
 // Where the rows of a kind are counted.
 fn by_kind(kind: u32) -> usize {
     tally::BY_KIND + (kind % 16) as usize
@@ -57,6 +72,7 @@ fn compare(counts: &mut [u64], message: &[u8], a: Row, form: &[u8], b: Row) {
     tally::add(counts, by_kind(a.kind), 1);
     tally::expect(counts, tally::WORDS, same_shape(a, b) && same_rest(a, b));
     tally::expect(counts, tally::PAYLOADS, same_payload(message, a, form, b));
+    tally::expect(counts, tally::IDS, same_id(message, a, form, b));
 }
 
 // Compares all rows used.

@@ -29,7 +29,7 @@ fn faults(name: &[u8], counts: &[u64], sort: usize) {
 // A line for each kind: the rows compared.
 fn kinds(counts: &[u64]) {
     let mut kind: usize = 1;
-    while kind < 13 {
+    while kind < 14 {
         io::write_all(STDOUT_FILENO, b"rows compared, of kind ");
         io::print_decimal(STDOUT_FILENO, kind as u64);
         counted(b"", counts, tally::BY_KIND + kind);
@@ -61,6 +61,7 @@ fn sorts(counts: &[u64]) {
     faults(b"the second reader differs", counts, tally::SECOND);
     faults(b"rows of another meaning", counts, tally::WORDS);
     faults(b"payloads with other bytes", counts, tally::PAYLOADS);
+    faults(b"ids with other bytes", counts, tally::IDS);
     faults(b"not in house form", counts, tally::FORM);
     faults(b"changed by rewriting again", counts, tally::TWICE);
     faults(b"another answer with a byte less", counts, tally::ROOM);

@@ -60,6 +60,9 @@ pub const TWICE: usize = 9;
 // An answer other than 11 at 0 where the room is a byte less than needed.
 pub const ROOM: usize = 10;
 
+// An extension's id with another mark or another number.
+pub const IDS: usize = 11;
+
 // The count at a place.
 pub fn count(counts: &[u64], at: usize) -> u64 {
     if at < counts.len() {

@@ -1,7 +1,8 @@
-// A second reader, written from document 01 apart from the first and in another shape, to be compared with it: a machine with a
+// A second reader, written from document 01 and request No. 1 apart from the first and in another shape, to be compared with it: a machine with a
 // stack of frames in place of functions that call each other. It shares the width of a mark with the first, and nothing else.
 mod bytes;
 mod content;
+mod extension;
 mod frames;
 mod integers;
 mod machine;
@@ -14,6 +15,7 @@ mod values;
 mod vectors;
 
 use format::answers::Answer;
+use format::answers::Edition;
 use frames::Frame;
 use machine::Machine;
 use numbers::number;
@@ -92,9 +94,18 @@ fn answer(rows: &mut [u32], m: Machine) -> Answer {
     Answer::Done(m.row as usize)
 }
 
-// Reads a message into lent rows: the rows used, or a refusal's number and place.
-pub fn read(message: &[u8], rows: &mut [u32]) -> Answer {
-    let mut m = Machine::new(number(message.len()), number(rows.len() / 8));
+// Whether an edition has extensions.
+fn has_extensions(edition: Edition) -> bool {
+    match edition {
+        Edition::Old => false,
+        Edition::New => true,
+    }
+}
+
+// Reads a message of an edition into lent rows: the rows used, or a refusal's number and place.
+pub fn read(edition: Edition, message: &[u8], rows: &mut [u32]) -> Answer {
+    let extensions = has_extensions(edition);
+    let mut m = Machine::new(number(message.len()), number(rows.len() / 8), extensions);
     if LIMIT < message.len() {
         return answer(rows, m.refuse(1, 0));
     }

@@ -6,6 +6,8 @@ pub struct Machine {
     // The message's length, and the rows lent.
     pub end: u32,
     pub lent: u32,
+    // Whether the edition has extensions.
+    pub extensions: bool,
     // The next place, the next row, and how many frames and how many brackets of a schema are open.
     pub at: u32,
     pub row: u32,
@@ -24,10 +26,11 @@ pub struct Machine {
 
 impl Machine {
     // Before the first byte.
-    pub fn new(end: u32, lent: u32) -> Machine {
+    pub fn new(end: u32, lent: u32, extensions: bool) -> Machine {
         Machine {
             end: end,
             lent: lent,
+            extensions: extensions,
             at: 0,
             row: 0,
             open: 0,

@@ -28,6 +28,14 @@ pub fn product(a: u32, b: u32) -> u32 {
     MOST
 }
 
+// A number of 64 bits in 32; where it is larger, the largest.
+pub fn short(n: u64) -> u32 {
+    if n <= 0xFFFF_FFFF {
+        return n as u32;
+    }
+    MOST
+}
+
 // A length of the machine's as a number.
 pub fn number(n: usize) -> u32 {
     if n <= 0xFFFF_FFFF {

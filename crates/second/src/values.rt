@@ -4,6 +4,7 @@ use crate::bytes::closing;
 use crate::bytes::is_scalar;
 use crate::bytes::is_type;
 use crate::bytes::skip;
+use crate::extension::extension;
 use crate::frames;
 use crate::frames::Frame;
 use crate::integers::integer;
@@ -45,6 +46,7 @@ fn value(message: &[u8], rows: &mut [u32], frames: &mut [u32], m: Machine) -> Ma
     match mark {
         b'S' => token::text(message, rows, m, 2),
         b'H' => token::text(message, rows, m, 3),
+        b'E' => extension(message, rows, m),
         b'[' => open(frames, m, mark),
         b'{' => open(frames, m, mark),
         _ => {

@@ -8,6 +8,7 @@ use crate::same::same_words;
 use crate::tally::Tally;
 use crate::tally::next;
 use format::answers::Answer;
+use format::answers::Edition;
 use format::marks::CHAR;
 use format::marks::TEXT;
 use format::marks::TRUE;
@@ -157,7 +158,7 @@ fn read_again(
 ) -> Tally {
     let mut tried = t;
     tried.changes = next(t.changes);
-    match reader::message::read(after, again) {
+    match reader::message::read(Edition::New, after, again) {
         Answer::Refused(_, _) => tried,
         Answer::Done(_) => {
             tried.kept = next(t.kept);

@@ -6,6 +6,7 @@ use crate::tally::Tally;
 use crate::tally::next;
 use crate::tally::none;
 use format::answers::Answer;
+use format::answers::Edition;
 use grid::numbers::least;
 use grid::numbers::narrow;
 
@@ -46,7 +47,7 @@ fn read(
     list: &mut [u32],
     t: Tally,
 ) -> Tally {
-    match reader::message::read(message, rows) {
+    match reader::message::read(Edition::New, message, rows) {
         Answer::Refused(_, _) => t,
         Answer::Done(used) => accepted(number, message, other, rows, again, list, used, t),
     }

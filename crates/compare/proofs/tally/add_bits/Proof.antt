@@ -10,7 +10,7 @@ abbrev Inv-loop : tie.InvT-loop
 Inv-loop counts₀ bits n₀ counts n = length counts ≡ length counts₀
 
 abbrev μ-loop : tie.MeasureT-loop
-μ-loop counts₀ bits n₀ counts n = 16 - n
+μ-loop counts₀ bits n₀ counts n = 19 - n
 
 pub add-bits-spec : {M : Type 1} → statement M
 add-bits-spec =

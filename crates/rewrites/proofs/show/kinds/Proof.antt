@@ -8,7 +8,7 @@ abbrev Inv-loop : tie.InvT-loop
 Inv-loop counts kind₀ t3 t4 kind = Unit {0}
 
 abbrev μ-loop : tie.MeasureT-loop
-μ-loop counts kind₀ t3 t4 kind = 13 - kind
+μ-loop counts kind₀ t3 t4 kind = 14 - kind
 
 pub kinds-spec : {M : Type 1} → statement M
 kinds-spec =
