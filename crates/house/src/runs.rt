@@ -1,6 +1,8 @@
-// The lines of the input: the rows lent, the bytes of output lent, and a message.
+// The lines of the input: the edition's letter, the rows lent, the bytes of output lent, and a message.
 use crate::buffers;
 use crate::show;
+use format::answers::Edition;
+use lines::editions::edition;
 use lines::numbers::after;
 use lines::numbers::decimal;
 use lines::words::stored;
@@ -18,21 +20,22 @@ fn words_of(rows: usize) -> usize
 }
 
 // One message, with so many rows lent.
-fn run(message: &[u8], lent: usize, output: &mut [u8]) {
+fn run(edition: Edition, message: &[u8], lent: usize, output: &mut [u8]) {
     let mut rows = buffers::rows();
     let mut read = buffers::rows();
     let n = words_of(lent);
-    show::line(message, &mut rows[..n], &mut read[..n], output);
+    show::line(edition, message, &mut rows[..n], &mut read[..n], output);
 }
 
 // One line; answers the place of the next.
 fn one(text: &[u8], at: usize, message: &mut [u8], output: &mut [u8]) -> usize {
-    let lent = decimal(text, at);
+    let named = edition(text, at);
+    let lent = decimal(text, after(after(at)));
     let room = decimal(text, after(lent.next));
     let w = stored(text, room.next, message);
     let n = least(w.value, message.len());
     let k = least(room.value, output.len());
-    run(&message[..n], lent.value, &mut output[..k]);
+    run(named, &message[..n], lent.value, &mut output[..k]);
     after(w.next)
 }
 

@@ -1,5 +1,6 @@
 // What the rewriter answers, as a line.
 use format::answers::Answer;
+use format::answers::Edition;
 use lines::show::bytes;
 use lines::show::number;
 use lines::show::three;
@@ -94,11 +95,18 @@ fn end(words_hold: bool, bytes_hold: bool) {
 }
 
 // The line of an accepted message: the rows must be those that the reader leaves, and the output zero after what is written.
-fn done(message: &[u8], rows: &[u32], read: &mut [u32], output: &[u8], written: usize) {
+fn done(
+    edition: Edition,
+    message: &[u8],
+    rows: &[u32],
+    read: &mut [u32],
+    output: &[u8],
+    written: usize,
+) {
     three(0, 0, written as u64);
     let n = least(written, output.len());
     words(&output[..n]);
-    reader::message::read(message, read);
+    reader::message::read(edition, message, read);
     end(same_words(rows, read), zero_bytes(output, n));
 }
 
@@ -110,12 +118,18 @@ fn refused(number: u32, place: usize, rows: &[u32], output: &[u8]) {
 }
 
 // Rewrites the message over words and bytes that are not zero, and writes the line.
-pub fn line(message: &[u8], rows: &mut [u32], read: &mut [u32], output: &mut [u8]) {
+pub fn line(
+    edition: Edition,
+    message: &[u8],
+    rows: &mut [u32],
+    read: &mut [u32],
+    output: &mut [u8],
+) {
     fill_words(rows, 0xAAAA_AAAA);
     fill_words(read, 0x5555_5555);
     fill_bytes(output, 0xAA);
-    match rewriter::message::rewrite(message, rows, output) {
-        Answer::Done(written) => done(message, rows, read, output, written),
+    match rewriter::message::rewrite(edition, message, rows, output) {
+        Answer::Done(written) => done(edition, message, rows, read, output, written),
         Answer::Refused(refusal, place) => refused(refusal, place, rows, output),
     }
 }

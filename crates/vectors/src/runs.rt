@@ -1,24 +1,27 @@
-// The lines of the input: the rows lent, and a message.
+// The lines of the input: the edition's letter, the rows lent, and a message.
 use crate::buffers;
 use crate::show;
+use format::answers::Edition;
+use lines::editions::edition;
 use lines::numbers::after;
 use lines::numbers::decimal;
 use lines::numbers::least;
 use lines::words::stored;
 
 // One message, with so many rows lent.
-fn run(message: &[u8], lent: usize) {
+fn run(edition: Edition, message: &[u8], lent: usize) {
     let mut rows = buffers::rows();
     let n = show::words_of(lent);
-    show::line(message, &mut rows[..n]);
+    show::line(edition, message, &mut rows[..n]);
 }
 
 // One line; answers the place of the next.
 fn one(text: &[u8], at: usize, message: &mut [u8]) -> usize {
-    let lent = decimal(text, at);
+    let named = edition(text, at);
+    let lent = decimal(text, after(after(at)));
     let w = stored(text, lent.next, message);
     let n = least(w.value, message.len());
-    run(&message[..n], lent.value);
+    run(named, &message[..n], lent.value);
     after(w.next)
 }
 

@@ -1,5 +1,6 @@
 // What the reader answers, as a line.
 use format::answers::Answer;
+use format::answers::Edition;
 use lines::show::bytes;
 use lines::show::number;
 use lines::show::three;
@@ -69,8 +70,8 @@ fn end(rows: &[u32], used: usize) {
 }
 
 // Reads the message, and writes the line.
-pub fn line(message: &[u8], rows: &mut [u32]) {
-    match reader::message::read(message, rows) {
+pub fn line(edition: Edition, message: &[u8], rows: &mut [u32]) {
+    match reader::message::read(edition, message, rows) {
         Answer::Done(used) => {
             three(0, 0, used as u64);
             rows_used(rows, used);
