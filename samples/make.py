@@ -26,8 +26,12 @@ def alert(room):
     return b"T" if room in ALERTS else b"F"
 
 
+# The first time, in seconds since 1970: 16 November 2026, 00:00.
+START = 1_794_787_200
+
+
 def time(room):
-    return struct.pack("<I", 1_794_787_200 + 60 * room)
+    return struct.pack("<I", START + 60 * room)
 
 
 FIELDS = schema((b"temperature", b"d"), (b"alert", b"T"), (b"time", b"m"))
@@ -66,7 +70,45 @@ def report():
     return b"N{" + b"".join(key(name) + b"N" + value for name, value in members) + b"N}N"
 
 
-# For each number that reading answers, a message that is refused with it. 1 and 8 need large ones, which `check` makes.
+WIDTHS = {b"U": 1, b"u": 2, b"m": 4, b"L": 8}
+
+
+def integer(mark, n):
+    return mark + n.to_bytes(WIDTHS[mark], "little")
+
+
+def extension(number, payload, id_mark=b"U", length_mark=b"U"):
+    return b"E" + integer(id_mark, number) + integer(length_mark, len(payload)) + payload
+
+
+def microseconds(n):
+    return struct.pack("<q", n)
+
+
+UUID = bytes.fromhex("6f1c2b0a9d3e4c5781b24e6a7f9018cd")
+# A payload for each id that has a name, from 1 on.
+NAMED = [
+    struct.pack("<I", START), microseconds(START * 1_000_000), struct.pack("<qI", START, 250_000_000), struct.pack("<hBB", 2026, 11, 16),
+    bytes([6, 30, 15, 0]), microseconds(START * 1_000_000 + 250_000), microseconds(-90_000_000), struct.pack("<ff", 1.5, -2.25), struct.pack("<dd", 0.5, 2.0), UUID,
+]
+
+
+def extensions():
+    """From a controller of the new series: extensions of all ids that have a name and of opaque ones, in arrays and objects, beside a table."""
+    named = b"[#U" + bytes([len(NAMED)]) + b"".join(extension(number, payload) for number, payload in enumerate(NAMED, 1))
+    opaque = b"[" + extension(0, b"") + extension(255, b"\x07") + b"N" + extension(256, b"ward 3", b"u") + extension(4_294_967_295, b"E", b"m") + b"NN]"
+    wide = b"[" + extension(5, NAMED[4], b"L") + extension(4096, bytes(range(40)), b"u", b"m") + b"]"
+    beds = b"[$" + schema((b"bed", b"U"), (b"alert", b"T")) + b"#U\x02\x01F\x02T"
+    reading = b"{" + key(b"at") + extension(1, time(3)) + key(b"temperature") + b"d" + temperature(3) + b"}"
+    members = [
+        (b"controller", extension(10, UUID)), (b"sent", extension(2, NAMED[1])), (b"named", named), (b"opaque", opaque), (b"wide", wide),
+        (b"beds", beds), (b"readings", b"[" + reading + b"]"),
+    ]
+    return b"{" + b"".join(key(name) + value for name, value in members) + b"}"
+
+
+# For each number that reading answers, a message that is refused with it. 1 and 8 need large ones, which `check` makes. 3 and 4 have
+# a second message, for the mark of an extension that begins no value, and for a size that is not its id's.
 REFUSED = {
     2: b"[$U#U\x05\x01\x02",
     3: b"[$d]",
@@ -76,6 +118,8 @@ REFUSED = {
     7: b"[" * 33,
     9: b"{U\x01aU\x05}NU\x06",
     13: b"[${U\x01aHU\x01}#U\x00",
+    "3-extension": b"[$E#U\x01" + extension(1, NAMED[0])[1:],
+    "4-extension": b"{" + key(b"sent") + extension(2, NAMED[0]) + b"}",
 }
 
 
@@ -83,6 +127,7 @@ def stored():
     yield "floor-rows", floor_rows()
     yield "floor-columns", floor_columns()
     yield "report", report()
+    yield "extensions", extensions()
     for number, message in REFUSED.items():
         yield f"refused-{number}", message
 

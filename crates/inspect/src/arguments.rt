@@ -2,6 +2,7 @@
 use crate::lists;
 use crate::words;
 use crate::words::Word;
+use format::answers::Edition;
 use grid::numbers::less;
 use grid::numbers::sum;
 
@@ -34,6 +35,11 @@ pub const HOUSE_FILES: usize = 9;
 
 pub const HOUSE_VIEWS: usize = 10;
 
+// No edition after its option, or a word that is none.
+pub const NO_EDITION: usize = 11;
+
+pub const OTHER_EDITION: usize = 12;
+
 // The digits that a number of an address may have.
 const DIGITS: usize = 18;
 
@@ -42,7 +48,8 @@ const ROWS: usize = 2;
 
 const INDEXES: usize = 8;
 
-// The views, and the places among the arguments of the words that an address and a path of names take; 0 where none is asked for.
+// The views, and the places among the arguments of the words that an address, a path of names and an edition take; 0 where none is
+// asked for.
 pub struct Asked {
     pub rows: bool,
     pub slots: bool,
@@ -52,6 +59,9 @@ pub struct Asked {
     pub help: bool,
     pub address: usize,
     pub name: usize,
+    pub edition: usize,
+    // Whether the edition is the old one.
+    pub old: bool,
     // The place of the first argument that is bad; 0 where none is. And what is wrong with it.
     pub bad: usize,
     pub why: usize,
@@ -74,6 +84,8 @@ pub fn none() -> Asked {
         help: false,
         address: 0,
         name: 0,
+        edition: 0,
+        old: false,
         bad: 0,
         why: FINE,
         files: 0,
@@ -184,6 +196,38 @@ fn name(mut asked: Asked, i: usize, count: usize) -> Asked {
     asked
 }
 
+// Whether argument i names the old edition.
+fn is_old(i: usize) -> bool {
+    let mut text = io::buffer();
+    let n = os::arg(i, &mut text);
+    words::is_old(&text[..n])
+}
+
+// What is wrong with argument i of so many, which must name an edition.
+fn edition_at(i: usize, count: usize) -> usize {
+    if count <= i {
+        return NO_EDITION;
+    }
+    let mut text = io::buffer();
+    let n = os::arg(i, &mut text);
+    if words::is_edition(&text[..n]) {
+        return FINE;
+    }
+    OTHER_EDITION
+}
+
+// An edition, at argument i of so many: its name must follow.
+fn edition(mut asked: Asked, i: usize, count: usize) -> Asked {
+    asked.skip = 1;
+    if asked.edition != 0 {
+        return judged(asked, i, TWICE);
+    }
+    let named = sum(i, 1);
+    asked.edition = named;
+    asked.old = is_old(named);
+    judged(asked, named, edition_at(named, count))
+}
+
 // A view.
 fn view(mut asked: Asked, w: Word) -> Asked {
     match w {
@@ -227,6 +271,7 @@ fn with_word(asked: Asked, i: usize, count: usize) -> Asked {
     match w {
         Word::At => address(asked, i, count),
         Word::Name => name(asked, i, count),
+        Word::Edition => edition(asked, i, count),
         Word::End => end(asked),
         Word::File => file(asked),
         Word::Unknown => judged(asked, i, UNKNOWN),
@@ -272,6 +317,14 @@ pub fn all(count: usize) -> Asked {
         i += 1;
     }
     combined(asked)
+}
+
+// The edition that messages are read by: the new one where none is named.
+pub fn read_by(asked: Asked) -> Edition {
+    if asked.old {
+        return Edition::Old;
+    }
+    Edition::New
 }
 
 // Whether no view is asked for by name: then the rows are shown.

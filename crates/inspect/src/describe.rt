@@ -1,7 +1,9 @@
 // A row in words.
+use crate::dump;
 use crate::held;
 use format::answers::Located;
 use format::marks::ARRAY;
+use grid::numbers::least;
 use grid::numbers::sum;
 use grid::shape;
 use rows::word;
@@ -151,6 +153,34 @@ fn dimension(rows: &[u32], row: usize, out: &mut [u8], at: usize) -> usize {
     number(out, equal, word(rows, row, 5))
 }
 
+// The bytes of an extension's payload; of more than a line's the first, and how many there are.
+fn payload(message: &[u8], rows: &[u32], row: usize, out: &mut [u8], at: usize) -> usize {
+    let first = word(rows, row, 3);
+    let length = word(rows, row, 4);
+    if length == 0 {
+        return text(out, at, b", no payload");
+    }
+    let equal = text(out, at, b" =");
+    let end = sum(first, least(length, dump::WIDE));
+    let shown = dump::cells(out, equal, message, first, end);
+    if length <= dump::WIDE {
+        return shown;
+    }
+    let opened = text(out, shown, b"... (");
+    let all = number(out, opened, length);
+    text(out, all, b" bytes)")
+}
+
+// An extension, with its id and payload.
+fn extension(message: &[u8], rows: &[u32], row: usize, out: &mut [u8], at: usize) -> usize {
+    let id = word(rows, row, 5);
+    let kind = names::kind(out, at, word(rows, row, 0));
+    let gap = text(out, kind, b" ");
+    let shown = number(out, gap, id);
+    let named = names::id(out, shown, id);
+    payload(message, rows, row, out, named)
+}
+
 // A row.
 pub fn row(message: &[u8], rows: &[u32], row: usize, out: &mut [u8], at: usize) -> usize {
     let kind = word(rows, row, 0);
@@ -164,6 +194,7 @@ pub fn row(message: &[u8], rows: &[u32], row: usize, out: &mut [u8], at: usize) 
         7 => packed(rows, row, out, at),
         8 => table(rows, row, out, at),
         12 => dimension(rows, row, out, at),
+        13 => extension(message, rows, row, out, at),
         _ => in_schema(rows, row, out, at),
     }
 }

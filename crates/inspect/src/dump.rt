@@ -30,7 +30,7 @@ fn columns(bytes: usize) -> usize {
 }
 
 // The bytes from a place on, before another, with a space before each.
-fn cells(out: &mut [u8], at: usize, message: &[u8], from: usize, end: usize) -> usize {
+pub fn cells(out: &mut [u8], at: usize, message: &[u8], from: usize, end: usize) -> usize {
     let mut next = at;
     let mut i = from;
     while i < end {

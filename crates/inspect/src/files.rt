@@ -53,7 +53,7 @@ fn message_named(
     out: &mut [u8],
 ) {
     if asked.house {
-        messages::rewritten(name, message, rows, house, asked.color, out);
+        messages::rewritten(name, message, rows, house, asked, out);
         return;
     }
     let named = plain(out, 0, name);

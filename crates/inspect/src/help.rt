@@ -10,7 +10,7 @@ fn usage(out: &mut [u8], at: usize) -> usize {
     text(
         out,
         at,
-        b"usage: inspect [--rows] [--slots] [--hex] [--at ROW[,LEAF] I[,J..]] [--name A/B/C] [--color]\n               [FILE..]\n       inspect --house [FILE]\n       inspect --help\n",
+        b"usage: inspect [--rows] [--slots] [--hex] [--at ROW[,LEAF] I[,J..]] [--name A/B/C]\n               [--edition old|new] [--color] [FILE..]\n       inspect --house [--edition old|new] [FILE]\n       inspect --help\n",
     )
 }
 
@@ -57,7 +57,7 @@ fn options(out: &mut [u8], at: usize) -> usize {
     let a = text(
         out,
         at,
-        b"  --house   writes the message in house form, and nothing else, to standard output\n  --color   with colour\n  --help    this text; -h too\n  --        all after it are files\n\n",
+        b"  --house   writes the message in house form, and nothing else, to standard output\n  --edition old|new\n            the edition that messages are read by; new where none is named. The old one has no\n            extensions\n  --color   with colour\n  --help    this text; -h too\n  --        all after it are files\n\n",
     );
     let b = text(
         out,
@@ -107,6 +107,15 @@ fn in_address(out: &mut [u8], at: usize, i: usize, why: usize) -> usize {
     }
 }
 
+// What is wrong with argument i, which must name an edition.
+fn in_edition(out: &mut [u8], at: usize, i: usize, why: usize) -> usize {
+    let begun = text(out, at, b"--edition takes old or new; ");
+    if why == arguments::NO_EDITION {
+        return text(out, begun, b"a word is missing");
+    }
+    worded(out, begun, b"not understood: ", i)
+}
+
 // What is wrong with argument i.
 fn fault(out: &mut [u8], at: usize, i: usize, why: usize) -> usize {
     match why {
@@ -120,6 +129,8 @@ fn fault(out: &mut [u8], at: usize, i: usize, why: usize) -> usize {
             at,
             b"--house goes with none of --rows, --slots, --hex, --at and --name",
         ),
+        arguments::NO_EDITION => in_edition(out, at, i, why),
+        arguments::OTHER_EDITION => in_edition(out, at, i, why),
         _ => in_address(out, at, i, why),
     }
 }

@@ -2,6 +2,7 @@
 use crate::address;
 use crate::arguments::Asked;
 use crate::arguments::is_plain;
+use crate::arguments::read_by;
 use crate::bytes;
 use crate::dump;
 use crate::held;
@@ -104,7 +105,15 @@ fn refused(
     out: &mut [u8],
     at: usize,
 ) -> usize {
-    let told = verdict::refused(message, refusal, place, asked.color, out, at);
+    let told = verdict::refused(
+        message,
+        read_by(asked),
+        refusal,
+        place,
+        asked.color,
+        out,
+        at,
+    );
     if asked.hex {
         return dump::lines(out, told, message, 0, message.len());
     }
@@ -114,7 +123,7 @@ fn refused(
 // A message, as it is asked for.
 pub fn shown(message: &[u8], rows: &mut [u32], asked: Asked, out: &mut [u8], at: usize) -> usize {
     let sized = verdict::size(message, out, at);
-    match read_front(message, rows) {
+    match read_front(read_by(asked), message, rows) {
         Answer::Done(needed) => accepted(message, rows, needed, asked, out, sized),
         Answer::Refused(refusal, place) => refused(message, refusal, place, asked, out, sized),
     }
@@ -134,15 +143,24 @@ pub fn rewritten(
     message: &[u8],
     rows: &mut [u32],
     house: &mut [u8],
-    paint: bool,
+    asked: Asked,
     out: &mut [u8],
 ) {
-    match rewrite(message, rows, house) {
+    let edition = read_by(asked);
+    match rewrite(edition, message, rows, house) {
         Answer::Done(written) => write_house(house, written),
         Answer::Refused(refusal, place) => {
             let named = plain(out, 0, name);
             let sized = verdict::size(message, out, named);
-            let end = verdict::not_rewritten(message, refusal, place, paint, out, sized);
+            let end = verdict::not_rewritten(
+                message,
+                edition,
+                refusal,
+                place,
+                asked.color,
+                out,
+                sized,
+            );
             errors(out, end);
         }
     }

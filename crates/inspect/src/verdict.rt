@@ -2,13 +2,19 @@
 use crate::buffers::ROWS;
 use crate::dump;
 use format::answers::Answer;
+use format::answers::Edition;
 use format::limits::LIMIT;
+use format::marks::EXTENSION;
+use grid::numbers::byte;
 use reader::message::rows_needed;
 use show::block::line;
 use show::block::text;
 use show::numbers::counted;
 use show::numbers::number;
 use show::scalars;
+
+// The refusal of a byte that is not allowed.
+const NOT_ALLOWED: u32 = 3;
 
 // The refusal for want of rows.
 const NO_ROW: u32 = 8;
@@ -53,16 +59,36 @@ pub fn accepted(needed: usize, held: usize, paint: bool, out: &mut [u8], at: usi
     line(out, all)
 }
 
+// Why the mark of an extension is not allowed: the edition that the message is read by has none, or has it begin values alone.
+fn by_edition(edition: Edition, out: &mut [u8], at: usize) -> usize {
+    match edition {
+        Edition::Old => text(out, at, b": the old edition has no extensions"),
+        Edition::New => text(out, at, b": in the new edition `E` begins a value only"),
+    }
+}
+
 // A refusal's number, meaning and place.
-pub fn reason(refusal: u32, place: usize, out: &mut [u8], at: usize) -> usize {
+fn reason(
+    message: &[u8],
+    edition: Edition,
+    refusal: u32,
+    place: usize,
+    out: &mut [u8],
+    at: usize,
+) -> usize {
     let told = scalars::refused(out, at, refusal);
     let where_at = text(out, told, b", at byte ");
-    number(out, where_at, place)
+    let shown = number(out, where_at, place);
+    if refusal == NOT_ALLOWED && byte(message, place) == EXTENSION {
+        return by_edition(edition, out, shown);
+    }
+    shown
 }
 
 // A refused message: why, and the bytes around the place.
 pub fn refused(
     message: &[u8],
+    edition: Edition,
     refusal: u32,
     place: usize,
     paint: bool,
@@ -70,24 +96,24 @@ pub fn refused(
     at: usize,
 ) -> usize {
     let begun = painted(out, at, b"\x1b[31m", paint);
-    let told = reason(refusal, place, out, begun);
+    let told = reason(message, edition, refusal, place, out, begun);
     let plain = dump::plain(out, told, paint);
     let ended = line(out, plain);
     dump::around(out, ended, message, place, 1, paint)
 }
 
 // What a message that has no row left is with rows enough.
-fn with_more(message: &[u8], out: &mut [u8], at: usize) -> usize {
+fn with_more(message: &[u8], edition: Edition, out: &mut [u8], at: usize) -> usize {
     let begun = text(out, at, b"this program holds ");
     let held = number(out, begun, ROWS);
-    match rows_needed(message) {
+    match rows_needed(edition, message) {
         Answer::Done(needed) => {
             let told = text(out, held, b" rows; house form takes all of the message's ");
             number(out, told, needed)
         }
         Answer::Refused(refusal, place) => {
             let told = text(out, held, b" rows; with more the message is ");
-            reason(refusal, place, out, told)
+            reason(message, edition, refusal, place, out, told)
         }
     }
 }
@@ -95,16 +121,17 @@ fn with_more(message: &[u8], out: &mut [u8], at: usize) -> usize {
 // Why a message is not rewritten.
 pub fn not_rewritten(
     message: &[u8],
+    edition: Edition,
     refusal: u32,
     place: usize,
     paint: bool,
     out: &mut [u8],
     at: usize,
 ) -> usize {
-    let told = refused(message, refusal, place, paint, out, at);
+    let told = refused(message, edition, refusal, place, paint, out, at);
     if refusal != NO_ROW {
         return told;
     }
-    let more = with_more(message, out, told);
+    let more = with_more(message, edition, out, told);
     line(out, more)
 }

@@ -11,6 +11,7 @@ pub enum Word {
     Help,
     At,
     Name,
+    Edition,
     // All words after it are files' names.
     End,
     File,
@@ -41,6 +42,9 @@ fn with_words(word: &[u8]) -> Word {
     if is(word, b"--name") {
         return Word::Name;
     }
+    if is(word, b"--edition") {
+        return Word::Edition;
+    }
     if is(word, b"--") {
         return Word::End;
     }
@@ -68,6 +72,16 @@ pub fn of(word: &[u8]) -> Word {
         return Word::Help;
     }
     with_words(word)
+}
+
+// Whether a word names the old edition.
+pub fn is_old(word: &[u8]) -> bool {
+    is(word, b"old")
+}
+
+// Whether a word names an edition.
+pub fn is_edition(word: &[u8]) -> bool {
+    is_old(word) || is(word, b"new")
 }
 
 // Whether a word is standard input's.

@@ -1,4 +1,4 @@
-// The names of kinds, marks and orders, and the meanings of refusals.
+// The names of kinds, marks and extensions' ids, and the meanings of refusals.
 use crate::block::text;
 use format::marks;
 
@@ -17,6 +17,7 @@ pub fn kind(out: &mut [u8], at: usize, kind: usize) -> usize {
         10 => text(out, at, b"record"),
         11 => text(out, at, b"fixed array"),
         12 => text(out, at, b"dimension"),
+        13 => text(out, at, b"extension"),
         _ => text(out, at, b"no kind"),
     }
 }
@@ -53,13 +54,34 @@ pub fn mark(out: &mut [u8], at: usize, mark: u8) -> usize {
     }
 }
 
+// The name of an extension's id, after a space; nothing where the id is opaque.
+pub fn id(out: &mut [u8], at: usize, id: usize) -> usize {
+    match id {
+        1 => text(out, at, b" epoch_s"),
+        2 => text(out, at, b" epoch_us"),
+        3 => text(out, at, b" epoch_ns"),
+        4 => text(out, at, b" date"),
+        5 => text(out, at, b" time_s"),
+        6 => text(out, at, b" datetime_us"),
+        7 => text(out, at, b" timedelta_us"),
+        8 => text(out, at, b" complex64"),
+        9 => text(out, at, b" complex128"),
+        10 => text(out, at, b" uuid"),
+        _ => at,
+    }
+}
+
 // What a refusal's number means.
 pub fn refusal(out: &mut [u8], at: usize, number: u32) -> usize {
     match number {
         1 => text(out, at, b"message over the limit of 1,048,576 bytes"),
         2 => text(out, at, b"message ends too early"),
         3 => text(out, at, b"byte not allowed here"),
-        4 => text(out, at, b"content wrong (text, number, char or boolean)"),
+        4 => text(
+            out,
+            at,
+            b"content wrong (text, number, char, boolean or size of an extension)",
+        ),
         5 => text(out, at, b"over a limit"),
         6 => text(out, at, b"negative, or 0 or over 8 dimensions"),
         7 => text(out, at, b"too deep"),

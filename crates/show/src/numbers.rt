@@ -25,11 +25,12 @@ pub fn counted(out: &mut [u8], at: usize, n: usize, word: &[u8]) -> usize {
     text(out, next, b"s")
 }
 
-// A number with spaces before it, up to a width.
+// A number with spaces before it, up to a width; one space before a number that fills it.
 pub fn right(out: &mut [u8], at: usize, n: usize, width: usize) -> usize {
     let mut digits = [0u8; 20];
     let k = io::decimal(n as u64, &mut digits);
-    let next = spaces(out, at, less(width, k));
+    let gap = spaces(out, at, 1);
+    let next = spaces(out, gap, less(less(width, 1), k));
     text(out, next, &digits[..k])
 }
 
