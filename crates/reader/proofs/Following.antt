@@ -1,13 +1,13 @@
 -- Members that follow: one as several, several in a loop, and a plain container that opens in an array. Assumes nothing.
 use Prim.Native.Nat.{ℕ, zero, suc, _+_, _-_, _≤_, _<_}
 use mathlib.Core.Path.{_≡_, refl, sym, _∙_}
-use mathlib.Core.List.{List}
+use mathlib.Core.List.{List, [], _∷_}
 use native.Mathlib.Omega.{arith}
 use lib.ListN.{length, getD}
 use Rattle.format.specs.Grammars.{Grammar}
 use Rattle.format.specs.Limits.{limit}
-use Rattle.format.specs.Outcome.{Parsed, done}
-use Rattle.format.specs.Marks.{Opening, bracket, brace, opens, closes, isScalar, types, integers}
+use Rattle.format.specs.Outcome.{Parsed, done, fault}
+use Rattle.format.specs.Marks.{Opening, bracket, brace, opens, closes, isScalar, types, integers, 'N'}
 use Rattle.format.specs.Conditions.{if_then_else_, among}
 use Rattle.format.specs.Tokens.{Forest, size, members}
 use Rattle.format.specs.Rows.{rows}
@@ -25,7 +25,7 @@ use Rattle.tokens.proofs.Sofar.{Sofar, sofar-step, seq-read, onto-fault, laid-a
 use Rattle.containers.specs.Lists.{closed, ListMeets, ListWithin}
 use Rattle.containers.specs.declared.lists.Listed.{Listed}
 use Rattle.containers.specs.declared.lists.Listed.the-variants.{Fault, Next}
-use Rattle.containers.proofs.Loops.{Some, Until, until-start, until-stop}
+use Rattle.containers.proofs.Loops.{Some, Until, until-start, until-stop, until-fault}
 use Rattle.runs.specs.Runs.{Begins, Passed}
 use Rattle.runs.proofs.Passing.{passed-one}
 use Rattle.reader.specs.Items.{class, opensBracket, opensBrace}
@@ -39,6 +39,33 @@ unfolding closes
 closing-here m at bracket h e = skip-here m at h (λ n. absurd (omega (arith, e, n)))
 closing-here m at brace h e = skip-here m at h (λ n. absurd (omega (arith, e, n)))
 
+-- a byte other than 0 is in the message
+there-is : (m : List ℕ) (at : ℕ) → 0 < getD m at 0 → at < length m
+there-is [] at h = absurd (omega arith)
+there-is (x ∷ m) zero h = omega arith
+there-is (x ∷ m) (suc at) h = let l = there-is m at h in omega arith
+
+-- an opening mark is no `N` and no closing mark, so a member may begin there
+pub opening-begins : (m : List ℕ) (at : ℕ) (outer inner : Opening) → getD m at 0 ≡ opens inner → Begins m (closes outer) at
+unfolding opens closes
+opening-begins m at outer inner e =
+    let l = there-is m at (rw e (some inner)) in
+    record { there = l; here = skip-here m at l (λ n. other inner (sym e ∙ n)); more = λ c. apart outer inner (sym e ∙ c) }
+  where
+    some : (o : Opening) → 0 < opens o
+    some bracket = omega arith
+    some brace = omega arith
+
+    other : (o : Opening) → opens o ≡ 'N' → ⊥
+    other bracket e = absurd (omega (arith, e))
+    other brace e = absurd (omega (arith, e))
+
+    apart : (outer inner : Opening) → opens inner ≡ closes outer → ⊥
+    apart bracket bracket e = absurd (omega (arith, e))
+    apart bracket brace e = absurd (omega (arith, e))
+    apart brace bracket e = absurd (omega (arith, e))
+    apart brace brace e = absurd (omega (arith, e))
+
 -- ---- one member
 
 module _ (m : List ℕ) (closing : ℕ) (item : Reader) (at row : ℕ) (before after : List ℕ) where
@@ -50,6 +77,13 @@ module _ (m : List ℕ) (closing : ℕ) (item : Reader) (at row : ℕ) (before a
 pub one-within : (s : Step) (at high lent : ℕ) → Within s (at + 1) high lent → FollowingWithin (oneOf s) at high lent
 one-within (Faulty n p) at high lent w = tt
 one-within (Read next row) at high lent w = omega arith
+
+-- its fault is that of all members from it on
+pub first-fault : (m : List ℕ) (closing : ℕ) (item : Reader) (start first n p : ℕ) → Begins m closing start → item start first ≡ fault n p
+    → (fuel : ℕ) → length m ≤ start + fuel → until m fuel (skip m) closing item start first ≡ fault n p
+first-fault m closing item start first n p b h fuel l =
+    let e = b .here in
+    until-fault m (skip m) closing item start first [] (until-start m (skip m) closing item start first [] fuel l) (omega (arith, e)) (rw e (b .there)) (rw e (b .more)) n p (rw e h)
 
 -- ---- several members in a loop
 

@@ -11,7 +11,7 @@ use Rattle.format.specs.Bytes.{skip}
 use Rattle.format.specs.Sequences.{Reader, repeat, spaced, until}
 use Rattle.format.specs.Containers.{typed, items}
 use Rattle.format.specs.Read.{valueBy, nested}
-use Rattle.containers.specs.Lists.{closed, ListMeets}
+use Rattle.containers.specs.Lists.{closed, ListMeets, ListWithin}
 use Rattle.containers.specs.declared.lists.Listed.{Listed}
 use Rattle.containers.specs.declared.lists.Listed.the-variants.{Fault as Stopped, Next as Went}
 use Rattle.tokens.specs.declared.Step.{Step}
@@ -77,6 +77,11 @@ pub record OpensPlain (m : List ℕ) (lent levels : ℕ) (outer inner : Opening)
   pub notTyped : getD m (at + 1) 0 ≡ '$' → ⊥
   pub notCounted : getD m (at + 1) 0 ≡ '#' → ⊥
 
+-- members up to the closing mark, whatever they begin with, where these are read and end before `at` and `row`
+abbrev pub RestMeets : Listed → List ℕ → ℕ → Grammar → ℕ → Opening → ℕ → ℕ → ℕ → List ℕ → List ℕ → Type 0
+RestMeets r m lent grammar levels opening at row count now after = (start first : ℕ) (before : List ℕ)
+    → Passed m (closes opening) (memberOf m lent grammar levels opening) start first before at row count now → PlainMeets r m lent grammar levels opening start first before after
+
 -- one member as a list, and so many before a list
 abbrev pub oneOf : Step → Listed
 oneOf (Faulty n p) = Stopped n p
@@ -95,3 +100,6 @@ Small count (Went next row more) = count + more ≤ limit
 abbrev pub EachByte : Listed → ℕ → Type 0
 EachByte (Stopped n p) start = Unit {0}
 EachByte (Went next row count) start = start + count ≤ next
+
+abbrev pub RestWithin : Listed → ℕ → ℕ → ℕ → ℕ → Type 0
+RestWithin r high lent at count = (start : ℕ) → start + count ≤ at → ListWithin r start high lent × EachByte r start

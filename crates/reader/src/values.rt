@@ -30,7 +30,7 @@ ghost use Rattle.format.specs.Read.{nested};
 ghost use Rattle.tokens.specs.Answers.{Meets, Here, Within};
 ghost use Rattle.containers.specs.Lists.{ListMeets, ListWithin};
 ghost use Rattle.runs.specs.Runs.{Begins};
-ghost use Rattle.reader.specs.Values.{HeaderMeets, HeaderWithin, memberOf, PlainMeets, FollowingMeets, FollowingWithin, OpensPlain, Small, EachByte, oneOf, plusOf};
+ghost use Rattle.reader.specs.Values.{HeaderMeets, HeaderWithin, memberOf, PlainMeets, RestMeets, RestWithin, FollowingMeets, FollowingWithin, OpensPlain, Small, EachByte, oneOf, plusOf};
 
 // What follows an opening mark: a refusal; `$`; `#` and a count, and where the first member may begin; or neither.
 pub enum Header {
@@ -139,6 +139,24 @@ fn opens_plain(
         return false;
     }
     true
+}
+
+// Whether this is so, and the first that it holds is a container too.
+fn opens_deep(
+    message: &[u8],
+    lent: usize,
+    levels: usize,
+    brace: bool,
+    at: usize,
+    row: usize,
+) -> bool
+    requires { ⌜ at < length (now message) ⌝ }
+    ensures { λ r. ⌜ (r ≡ true → OpensPlain (now (message .entry)) lent levels (openingOf brace) (openingOf (eqb (getD (now (message .entry)) at 0) left-brace)) at row) ⌝ }
+{
+    if !opens_plain(message, lent, levels, brace, at, row) {
+        return false;
+    }
+    is_opening(message[at + 1])
 }
 
 // One member.
@@ -287,7 +305,61 @@ pub fn plain(
     }
 }
 
-// The same, where most have members of one sort only: these are read first, unless the first is a container.
+// Members up to the closing mark, after `count` that are read and end before `at` and `row`.
+fn rest(
+    edition: Edition,
+    message: &[u8],
+    rows: &mut [u32],
+    lent: usize,
+    levels: usize,
+    brace: bool,
+    at: usize,
+    row: usize,
+    count: usize,
+) -> Listed
+    requires { ⌜ Here (now message) lent at row × (count ≤ at) ⌝ }
+    ensures meets { λ r. ⌜ RestMeets r (now (message .entry)) lent (grammarOf edition) levels (openingOf brace) at row count (now (rows .entry)) (now (rows .exit)) ⌝ }
+    ensures bounds { λ r. ⌜ RestWithin r (length (now (message .entry)) - 1) lent at count ⌝ }
+{
+    if stands(message, at, closing_mark(brace)) {
+        return Listed::Next(at, row, count);
+    }
+    plus(
+        count,
+        plain(edition, message, rows, lent, levels, brace, at, row),
+    )
+}
+
+// The same as `plain`, where a container comes first: by a call for each level, as long as containers begin with containers.
+fn deep(
+    edition: Edition,
+    message: &[u8],
+    rows: &mut [u32],
+    lent: usize,
+    levels: usize,
+    brace: bool,
+    start: usize,
+    first: usize,
+) -> Listed
+    requires { ⌜ Here (now message) lent start first × (start < length (now message)) ⌝ }
+    ensures meets { λ r. ⌜ PlainMeets r (now (message .entry)) lent (grammarOf edition) levels (openingOf brace) start first (now (rows .entry)) (now (rows .exit)) ⌝ }
+    ensures bounds { λ r. ⌜ ListWithin r start (length (now (message .entry)) - 1) lent ⌝ }
+    ensures few { λ r. ⌜ EachByte r start ⌝ }
+{
+    if !opens_deep(message, lent, levels, brace, start, first) {
+        return rest(edition, message, rows, lent, levels, brace, start, first, 0);
+    }
+    let inner = message[start] == OBJECT;
+    let next = start + 1;
+    let below = first + 1;
+    let list = deep(edition, message, rows, lent, levels - 1, inner, next, below);
+    match close(rows, inner, start, first, next, 1, list) {
+        Step::Fault(n, p) => Listed::Fault(n, p),
+        Step::Next(at, row) => rest(edition, message, rows, lent, levels, brace, at, row, 1),
+    }
+}
+
+// The same as `plain`, where most have members of one sort only: these are read first, unless a container comes first.
 fn held(
     edition: Edition,
     message: &[u8],
@@ -304,18 +376,20 @@ fn held(
     ensures few { λ r. ⌜ EachByte r start ⌝ }
 {
     if is_opening(byte_at(message, start)) {
-        return plain(edition, message, rows, lent, levels, brace, start, first);
+        return deep(edition, message, rows, lent, levels, brace, start, first);
     }
-    let end = message.len();
-    let run = several(message, rows, lent, brace, end, start, first);
-    let at = run.at;
-    let row = run.row;
-    let count = run.count;
-    if stands(message, at, closing_mark(brace)) {
-        return Listed::Next(at, row, count);
-    }
-    let list = plain(edition, message, rows, lent, levels, brace, at, row);
-    plus(count, list)
+    let run = several(message, rows, lent, brace, message.len(), start, first);
+    rest(
+        edition,
+        message,
+        rows,
+        lent,
+        levels,
+        brace,
+        run.at,
+        run.row,
+        run.count,
+    )
 }
 
 // The container at `at`, with so many levels left.

@@ -1,10 +1,11 @@
--- The cycle of `container`, `member`, `following`, `counted`, `plain` and `held`: each call has a level less, or is nearer to where a level is taken. Assumes nothing.
+-- The cycle of `container`, `member`, `following`, `counted`, `plain`, `rest`, `deep` and `held`: each call has a level less, or is nearer to where a level is taken. Assumes nothing.
 use Prim.Native.Nat.{ℕ, _+_, _*_, _-_, _≤_, _<_}
 use mathlib.Core.Path.{_≡_, refl, sym, _∙_}
 use native.Mathlib.Omega.{arith}
 use native.Mathlib.Nat.{sub-zero}
 use lib.ListN.{length}
 use borrow.Author.Needs.{needs}
+use borrow.Author.Tests.{not-false}
 use Rattle.format.specs.Answers.{grammarOf}
 use Rattle.format.specs.Marks.{openingOf, closes}
 use Rattle.format.specs.Bytes.{skip}
@@ -12,38 +13,46 @@ use Rattle.format.specs.Sequences.{spaced}
 use Rattle.format.specs.Read.{nested}
 use Rattle.laws.proofs.Skips.{skip-again}
 use Rattle.scan.proofs.Stands.{stands-there}
+use Rattle.runs.proofs.Passing.{passed-start, passed-one}
 use Rattle.tokens.proofs.Laying.{within-from}
 use Rattle.reader.specs.Values.{memberOf}
 use Rattle.reader.proofs.ItemLaws.{opened-meets}
-use Rattle.reader.proofs.Following.{closing-here, one-meets, one-within, some-passed, until-passed, until-skip, passed-stop, list-passed, list-within, each-byte, plus-small, opened-plain}
+use Rattle.reader.proofs.Following.{closing-here, opening-begins, first-fault, one-meets, one-within, some-passed, until-passed, until-skip, passed-stop, list-passed, list-within, each-byte, plus-small, opened-plain}
 use Rattle.containers.proofs.Closing.{list-cap}
 use Rattle.containers.proofs.Loops.{Going, Some, some-start, some-step, some-fault, some-end, Until, until-start, until-early, until-stop, until-fault}
 use borrow.Fn.Kinds.{In}
 use borrow.Fn.PlainCycle.{Measures, is, falls, and}
 use Rattle.reader.proofs.values.container.Reads as container
 use Rattle.reader.proofs.values.container.Kinds as container-kinds
-use Rattle.reader.proofs.values.+container+counted+following+held+member+plain.Lts-container as container-lts
+use Rattle.reader.proofs.values.+container+counted+deep+following+held+member+plain+rest.Lts-container as container-lts
 use Rattle.reader.proofs.values.counted.Reads as counted
 use Rattle.reader.proofs.values.counted.Kinds as counted-kinds
-use Rattle.reader.proofs.values.+container+counted+following+held+member+plain.Lts-counted as counted-lts
+use Rattle.reader.proofs.values.+container+counted+deep+following+held+member+plain+rest.Lts-counted as counted-lts
+use Rattle.reader.proofs.values.deep.Reads as deep
+use Rattle.reader.proofs.values.deep.Kinds as deep-kinds
+use Rattle.reader.proofs.values.+container+counted+deep+following+held+member+plain+rest.Lts-deep as deep-lts
 use Rattle.reader.proofs.values.following.Reads as following
 use Rattle.reader.proofs.values.following.Kinds as following-kinds
-use Rattle.reader.proofs.values.+container+counted+following+held+member+plain.Lts-following as following-lts
+use Rattle.reader.proofs.values.+container+counted+deep+following+held+member+plain+rest.Lts-following as following-lts
 use Rattle.reader.proofs.values.held.Reads as held
 use Rattle.reader.proofs.values.held.Kinds as held-kinds
-use Rattle.reader.proofs.values.+container+counted+following+held+member+plain.Lts-held as held-lts
+use Rattle.reader.proofs.values.+container+counted+deep+following+held+member+plain+rest.Lts-held as held-lts
 use Rattle.reader.proofs.values.member.Reads as member
 use Rattle.reader.proofs.values.member.Kinds as member-kinds
-use Rattle.reader.proofs.values.+container+counted+following+held+member+plain.Lts-member as member-lts
+use Rattle.reader.proofs.values.+container+counted+deep+following+held+member+plain+rest.Lts-member as member-lts
 use Rattle.reader.proofs.values.plain.Reads as plain
 use Rattle.reader.proofs.values.plain.Kinds as plain-kinds
-use Rattle.reader.proofs.values.+container+counted+following+held+member+plain.Lts-plain as plain-lts
+use Rattle.reader.proofs.values.+container+counted+deep+following+held+member+plain+rest.Lts-plain as plain-lts
+use Rattle.reader.proofs.values.rest.Reads as rest
+use Rattle.reader.proofs.values.rest.Kinds as rest-kinds
+use Rattle.reader.proofs.values.+container+counted+deep+following+held+member+plain+rest.Lts-rest as rest-lts
 use Rattle.containers.proofs.lists.close.Reads as close-reads
 use Rattle.format.proofs.marks.closing_mark.Reads as closing-mark-reads
 use Rattle.reader.proofs.items.member_start.Reads as member-start-reads
 use Rattle.reader.proofs.values.header_at.Reads as header-at-reads
 use Rattle.reader.proofs.values.is_opening.Reads as is-opening-reads
 use Rattle.reader.proofs.values.one.Reads as one-reads
+use Rattle.reader.proofs.values.opens_deep.Reads as opens-deep-reads
 use Rattle.reader.proofs.values.opens_plain.Reads as opens-plain-reads
 use Rattle.reader.proofs.values.plus.Reads as plus-reads
 use Rattle.runs.proofs.members.several.Reads as several-reads
@@ -51,26 +60,32 @@ use Rattle.scan.proofs.bytes.byte_at.Reads as byte-at-reads
 use Rattle.scan.proofs.bytes.stands.Reads as stands-reads
 use Rattle.scan.proofs.noops.skip.Reads as skip-reads
 use Rattle.typed.proofs.container.typed.Reads as typed-reads
-use Rattle.reader.proofs.values.+container+counted+following+held+member+plain.{statement}
-use Rattle.reader.proofs.values.+container+counted+following+held+member+plain.Tie.{close}
+use Rattle.reader.proofs.values.+container+counted+deep+following+held+member+plain+rest.{statement}
+use Rattle.reader.proofs.values.+container+counted+deep+following+held+member+plain+rest.Tie.{close}
 
 abbrev μ-container : Measures 2 container-kinds.ps ℕ
-μ-container κs a = 5 * a .1 .1 .1 .1 .0
+μ-container κs a = 7 * a .1 .1 .1 .1 .0
 
 abbrev μ-counted : Measures 2 counted-kinds.ps ℕ
-μ-counted κs a = 5 * a .1 .1 .1 .1 .0 + 3
+μ-counted κs a = 7 * a .1 .1 .1 .1 .0 + 3
+
+abbrev μ-deep : Measures 2 deep-kinds.ps ℕ
+μ-deep κs a = 7 * a .1 .1 .1 .1 .0 + 5
 
 abbrev μ-following : Measures 2 following-kinds.ps ℕ
-μ-following κs a = 5 * a .1 .1 .1 .1 .0 + 2
+μ-following κs a = 7 * a .1 .1 .1 .1 .0 + 2
 
 abbrev μ-held : Measures 2 held-kinds.ps ℕ
-μ-held κs a = 5 * a .1 .1 .1 .1 .0 + 4
+μ-held κs a = 7 * a .1 .1 .1 .1 .0 + 6
 
 abbrev μ-member : Measures 2 member-kinds.ps ℕ
-μ-member κs a = 5 * a .1 .1 .1 .1 .0 + 1
+μ-member κs a = 7 * a .1 .1 .1 .1 .0 + 1
 
 abbrev μ-plain : Measures 2 plain-kinds.ps ℕ
-μ-plain κs a = 5 * a .1 .1 .1 .1 .0 + 3
+μ-plain κs a = 7 * a .1 .1 .1 .1 .0 + 3
+
+abbrev μ-rest : Measures 2 rest-kinds.ps ℕ
+μ-rest κs a = 7 * a .1 .1 .1 .1 .0 + 4
 
 abbrev container-at : ℕ → In 2 container-kinds.ps
 container-at t = and 2 container-kinds.ps (is 2 container-kinds.ps μ-container t) container.Pre
@@ -84,6 +99,12 @@ counted-at t = and 2 counted-kinds.ps (is 2 counted-kinds.ps μ-counted t) count
 
 abbrev counted-below : ℕ → In 2 counted-kinds.ps
 counted-below t = and 2 counted-kinds.ps (falls 2 counted-kinds.ps _<_ μ-counted t) counted.Pre
+
+abbrev deep-at : ℕ → In 2 deep-kinds.ps
+deep-at t = and 2 deep-kinds.ps (is 2 deep-kinds.ps μ-deep t) deep.Pre
+
+abbrev deep-below : ℕ → In 2 deep-kinds.ps
+deep-below t = and 2 deep-kinds.ps (falls 2 deep-kinds.ps _<_ μ-deep t) deep.Pre
 
 abbrev following-at : ℕ → In 2 following-kinds.ps
 following-at t = and 2 following-kinds.ps (is 2 following-kinds.ps μ-following t) following.Pre
@@ -110,23 +131,35 @@ plain-at t = and 2 plain-kinds.ps (is 2 plain-kinds.ps μ-plain t) plain.Pre
 abbrev plain-below : ℕ → In 2 plain-kinds.ps
 plain-below t = and 2 plain-kinds.ps (falls 2 plain-kinds.ps _<_ μ-plain t) plain.Pre
 
+abbrev rest-at : ℕ → In 2 rest-kinds.ps
+rest-at t = and 2 rest-kinds.ps (is 2 rest-kinds.ps μ-rest t) rest.Pre
+
+abbrev rest-below : ℕ → In 2 rest-kinds.ps
+rest-below t = and 2 rest-kinds.ps (falls 2 rest-kinds.ps _<_ μ-rest t) rest.Pre
+
 abbrev container-calls : ℕ → container-lts.Claims
 container-calls t = (header-at-reads.Asked, header-at-reads.Learnt, typed-reads.Asked, typed-reads.Learnt, counted-below t, counted.Post, close-reads.Asked, close-reads.Learnt, plain-below t, plain.Post)
 
 abbrev counted-calls : ℕ → counted-lts.Claims
 counted-calls t = (several-reads.Asked, several-reads.Learnt, skip-reads.Asked, skip-reads.Learnt, member-below t, member.Post)
 
+abbrev deep-calls : ℕ → deep-lts.Claims
+deep-calls t = (opens-deep-reads.Asked, opens-deep-reads.Learnt, rest-below t, rest.Post, deep-below t, deep.Post, close-reads.Asked, close-reads.Learnt)
+
 abbrev following-calls : ℕ → following-lts.Claims
 following-calls t = (opens-plain-reads.Asked, opens-plain-reads.Learnt, held-below t, held.Post, close-reads.Asked, close-reads.Learnt, one-reads.Asked, one-reads.Learnt, several-reads.Asked, several-reads.Learnt, member-below t, member.Post)
 
 abbrev held-calls : ℕ → held-lts.Claims
-held-calls t = (byte-at-reads.Asked, byte-at-reads.Learnt, is-opening-reads.Asked, is-opening-reads.Learnt, plain-below t, plain.Post, several-reads.Asked, several-reads.Learnt, closing-mark-reads.Asked, closing-mark-reads.Learnt, stands-reads.Asked, stands-reads.Learnt, plus-reads.Asked, plus-reads.Learnt)
+held-calls t = (byte-at-reads.Asked, byte-at-reads.Learnt, is-opening-reads.Asked, is-opening-reads.Learnt, deep-below t, deep.Post, several-reads.Asked, several-reads.Learnt, rest-below t, rest.Post)
 
 abbrev member-calls : ℕ → member-lts.Claims
 member-calls t = (member-start-reads.Asked, member-start-reads.Learnt, container-below t, container.Post)
 
 abbrev plain-calls : ℕ → plain-lts.Claims
 plain-calls t = (closing-mark-reads.Asked, closing-mark-reads.Learnt, skip-reads.Asked, skip-reads.Learnt, following-below t, following.Post)
+
+abbrev rest-calls : ℕ → rest-lts.Claims
+rest-calls t = (closing-mark-reads.Asked, closing-mark-reads.Learnt, stands-reads.Asked, stands-reads.Learnt, plain-below t, plain.Post, plus-reads.Asked, plus-reads.Learnt)
 
 container-add-below : (t : ℕ) → container-lts.Need-add-below (container-calls t) (container-at t) container.Post
 container-add-below t c =
@@ -298,6 +331,79 @@ counted-same-length-2 t c = omega arith
 counted-returns-2 : (t : ℕ) → counted-lts.Need-returns-2 (counted-calls t) (counted-at t) counted.Post counted-Inv-loop counted-μ-loop
 counted-returns-2 t c = let i = c .before .loop .inv in (some-end _ _ _ _ _ (i .2) (c .loop-test .left), omega arith)
 
+deep-opens-deep-requires : (t : ℕ) → deep-lts.Need-opens-deep-requires (deep-calls t) (deep-at t) deep.Post
+deep-opens-deep-requires t c κs = c .before .before .pre .1 .1
+
+deep-rest-requires : (t : ℕ) → deep-lts.Need-rest-requires (deep-calls t) (deep-at t) deep.Post
+deep-rest-requires t c κs = (omega arith, (omega arith, omega arith))
+
+deep-same-length : (t : ℕ) → deep-lts.Need-same-length (deep-calls t) (deep-at t) deep.Post
+deep-same-length t c = omega arith
+
+deep-returns : (t : ℕ) → deep-lts.Need-returns (deep-calls t) (deep-at t) deep.Post
+deep-returns t c =
+    let v = c .before .before .rest in
+    (v .ensures .0 _ _ _ (passed-start _ _ _ _ _ _), v .ensures .1 (c .before .before .before .before .before .before .before .before .args .start) (omega arith))
+
+deep-shared-slice-read-inner : (t : ℕ) → deep-lts.Need-shared-slice-read-inner (deep-calls t) (deep-at t) deep.Post
+deep-shared-slice-read-inner t c = let b = c .before .before .before .before .before .pre .1 .1 in omega arith
+
+deep-add-next : (t : ℕ) → deep-lts.Need-add-next (deep-calls t) (deep-at t) deep.Post
+deep-add-next t c = omega arith
+
+deep-add-below : (t : ℕ) → deep-lts.Need-add-below (deep-calls t) (deep-at t) deep.Post
+deep-add-below t c = omega arith
+
+deep-sub-deep : (t : ℕ) → deep-lts.Need-sub-deep (deep-calls t) (deep-at t) deep.Post
+deep-sub-deep t c = let o = c .before .before .before .opens-deep .ensures (not-false _ (c .before .before .if1 .left)) in omega arith
+
+deep-deep-requires : (t : ℕ) → deep-lts.Need-deep-requires (deep-calls t) (deep-at t) deep.Post
+deep-deep-requires t c κs = let o = c .before .before .before .opens-deep .ensures (not-false _ (c .before .before .if1 .left)) in (omega arith, (omega arith, o .there))
+
+deep-close-requires : (t : ℕ) → deep-lts.Need-close-requires (deep-calls t) (deep-at t) deep.Post
+deep-close-requires t c κs =
+    let l = c .before .before .before .deep in
+    (omega arith, omega arith, omega arith, list-cap (l .result) _ _ _ (omega arith) (l .ensures .1 .0))
+
+deep-enum-known-n : (t : ℕ) → deep-lts.Need-enum-known-n (deep-calls t) (deep-at t) deep.Post
+deep-enum-known-n t c = search needs
+
+deep-enum-known-at : (t : ℕ) → deep-lts.Need-enum-known-at (deep-calls t) (deep-at t) deep.Post
+deep-enum-known-at t c = search needs
+
+deep-rest-requires-2 : (t : ℕ) → deep-lts.Need-rest-requires-2 (deep-calls t) (deep-at t) deep.Post
+deep-rest-requires-2 t c κs =
+    let o = c .before .before .before .before .before .before .before .before .before .before .before .before .before .before .opens-deep .ensures (not-false _ (c .before .before .before .before .before .before .before .before .before .before .before .before .before .if1 .left)) in
+    let l = c .before .before .before .before .before .before .before .before .before .before .deep in
+    let z = c .before .before .before .before .before .before .close in
+    let e = c .before .before .at .given .1 in
+    let w = rw e at (z .ensures .1 (length (c .before .before .before .before .before .before .before .before .before .before .before .before .before .before .before .before .before .args .message .now)) (c .before .before .before .before .before .before .before .before .before .before .before .before .before .before .before .before .before .args .lent) (l .ensures .1 .0) (omega (arith, o .there))) in
+    (omega (arith, c .before .before .before .before .before .before .before .before .before .before .before .before .before .before .before .before .before .pre .0), (omega (arith, w, c .before .before .before .before .before .before .before .before .before .before .before .before .before .before .before .before .before .pre .1 .0), omega (arith, w)))
+
+deep-same-length-2 : (t : ℕ) → deep-lts.Need-same-length-2 (deep-calls t) (deep-at t) deep.Post
+deep-same-length-2 t c = omega arith
+
+deep-returns-2 : (t : ℕ) → deep-lts.Need-returns-2 (deep-calls t) (deep-at t) deep.Post
+deep-returns-2 t c =
+    let o = c .before .before .before .before .before .before .before .before .before .before .before .before .before .opens-deep .ensures (not-false _ (c .before .before .before .before .before .before .before .before .before .before .before .before .if1 .left)) in
+    let l = c .before .before .before .before .before .before .before .before .before .deep in
+    let h = rw (c .before .n .given .1) at (c .before .before .before .before .before .close .ensures .0 _ _ (l .ensures .0 (length (c .before .before .before .before .before .before .before .before .before .before .before .before .before .before .before .before .args .message .now)) (omega arith))) in
+    (first-fault _ _ _ _ _ _ _ (opening-begins _ _ (openingOf (c .before .before .before .before .before .before .before .before .before .before .before .before .before .before .before .before .args .brace)) _ (o .opening)) (rw (opened-plain _ _ _ _ _ _ _ _ o) h), (tt, tt))
+
+deep-same-length-3 : (t : ℕ) → deep-lts.Need-same-length-3 (deep-calls t) (deep-at t) deep.Post
+deep-same-length-3 t c = omega arith
+
+deep-returns-3 : (t : ℕ) → deep-lts.Need-returns-3 (deep-calls t) (deep-at t) deep.Post
+deep-returns-3 t c =
+    let o = c .before .before .before .before .before .before .before .before .before .before .before .before .before .before .before .before .before .opens-deep .ensures (not-false _ (c .before .before .before .before .before .before .before .before .before .before .before .before .before .before .before .before .if1 .left)) in
+    let l = c .before .before .before .before .before .before .before .before .before .before .before .before .before .deep in
+    let z = c .before .before .before .before .before .before .before .before .before .close in
+    let e = c .before .before .before .before .before .at .given .1 in
+    let w = rw e at (z .ensures .1 (length (c .before .before .before .before .before .before .before .before .before .before .before .before .before .before .before .before .before .before .before .before .args .message .now)) (c .before .before .before .before .before .before .before .before .before .before .before .before .before .before .before .before .before .before .before .before .args .lent) (l .ensures .1 .0) (omega (arith, o .there))) in
+    let h = rw e at (z .ensures .0 _ _ (l .ensures .0 (length (c .before .before .before .before .before .before .before .before .before .before .before .before .before .before .before .before .before .before .before .before .args .message .now)) (omega arith))) in
+    let v = c .before .before .rest2 in
+    (v .ensures .0 _ _ _ (passed-one _ _ _ _ _ _ _ _ _ (opening-begins _ _ (openingOf (c .before .before .before .before .before .before .before .before .before .before .before .before .before .before .before .before .before .before .before .before .args .brace)) _ (o .opening)) (omega (arith, w)) (rw (opened-plain _ _ _ _ _ _ _ _ o) h)), v .ensures .1 (c .before .before .before .before .before .before .before .before .before .before .before .before .before .before .before .before .before .before .before .before .args .start) (omega (arith, w)))
+
 following-opens-plain-requires : (t : ℕ) → following-lts.Need-opens-plain-requires (following-calls t) (following-at t) following.Post
 following-opens-plain-requires t c κs = let b = c .before .before .pre .1 .1 in omega arith
 
@@ -370,23 +476,21 @@ held-byte-at-requires t c κs = search needs
 held-is-opening-requires : (t : ℕ) → held-lts.Need-is-opening-requires (held-calls t) (held-at t) held.Post
 held-is-opening-requires t c κs = search needs
 
-held-plain-requires : (t : ℕ) → held-lts.Need-plain-requires (held-calls t) (held-at t) held.Post
-held-plain-requires t c κs = (omega arith, omega arith)
+held-deep-requires : (t : ℕ) → held-lts.Need-deep-requires (held-calls t) (held-at t) held.Post
+held-deep-requires t c κs =
+    let b = opening-begins (c .before .before .before .before .before .before .args .message .now) (c .before .before .before .before .before .before .args .start) (openingOf (c .before .before .before .before .before .before .args .brace)) _ (rw (c .before .before .before .byte-at .ensures) at (c .before .before .is-opening .ensures (c .before .if1 .taken))) in (omega arith, (omega arith, b .there))
 
 held-same-length : (t : ℕ) → held-lts.Need-same-length (held-calls t) (held-at t) held.Post
 held-same-length t c = omega arith
 
 held-returns : (t : ℕ) → held-lts.Need-returns (held-calls t) (held-at t) held.Post
-held-returns t c = c .before .before .plain .ensures
+held-returns t c = c .before .before .deep .ensures
 
 held-several-requires : (t : ℕ) → held-lts.Need-several-requires (held-calls t) (held-at t) held.Post
 held-several-requires t c κs = omega arith
 
-held-closing-mark-requires : (t : ℕ) → held-lts.Need-closing-mark-requires (held-calls t) (held-at t) held.Post
-held-closing-mark-requires t c κs = search needs
-
-held-stands-requires : (t : ℕ) → held-lts.Need-stands-requires (held-calls t) (held-at t) held.Post
-held-stands-requires t c κs = search needs
+held-rest-requires : (t : ℕ) → held-lts.Need-rest-requires (held-calls t) (held-at t) held.Post
+held-rest-requires t c κs = let e = c .before .before .before .several .ensures .1 in (omega arith, (omega arith, omega arith))
 
 held-same-length-2 : (t : ℕ) → held-lts.Need-same-length-2 (held-calls t) (held-at t) held.Post
 held-same-length-2 t c = omega arith
@@ -394,33 +498,9 @@ held-same-length-2 t c = omega arith
 held-returns-2 : (t : ℕ) → held-lts.Need-returns-2 (held-calls t) (held-at t) held.Post
 unfolding memberOf
 held-returns-2 t c =
-    let v = c .before .before .before .before .before .several in
-    let e = v .ensures .1 in
-    let p = v .ensures .0 (grammarOf (c .before .before .before .before .before .before .before .before .before .before .before .before .args .edition)) (nested (c .before .before .before .before .before .before .before .before .before .before .before .before .args .message .now) (c .before .before .before .before .before .before .before .before .before .before .before .before .args .lent) (grammarOf (c .before .before .before .before .before .before .before .before .before .before .before .before .args .edition)) (c .before .before .before .before .before .before .before .before .before .before .before .before .args .levels)) in
-    let a = stands-there _ _ _ (sym (c .before .stands .ensures) ∙ c .if2 .taken) in
-    let k = rw (c .before .before .closing-mark .ensures) at (a .1) in
-    ((λ fuel h. passed-stop _ _ _ _ _ _ fuel _ _ _ _ h p (closing-here _ _ (openingOf (c .before .before .before .before .before .before .before .before .before .before .before .before .args .brace)) (a .0) k) (a .0) k), (omega (arith, a .0), omega arith))
-
-held-plain-requires-2 : (t : ℕ) → held-lts.Need-plain-requires-2 (held-calls t) (held-at t) held.Post
-held-plain-requires-2 t c κs = let e = c .before .before .before .before .before .before .several .ensures .1 in (omega arith, omega arith)
-
-held-plus-requires : (t : ℕ) → held-lts.Need-plus-requires (held-calls t) (held-at t) held.Post
-held-plus-requires t c κs =
-    let e = c .before .before .before .before .before .before .before .before .before .several .ensures .1 in
-    let l = c .before .before .plain2 in
-    plus-small (l .result) _ _ _ _ _ (e .on) (omega (arith, c .before .before .before .before .before .before .before .before .before .before .before .before .before .before .before .before .pre .1)) (l .ensures .1 .1) (l .ensures .1 .0)
-
-held-same-length-3 : (t : ℕ) → held-lts.Need-same-length-3 (held-calls t) (held-at t) held.Post
-held-same-length-3 t c = omega arith
-
-held-returns-3 : (t : ℕ) → held-lts.Need-returns-3 (held-calls t) (held-at t) held.Post
-unfolding memberOf
-held-returns-3 t c =
-    let v = c .before .before .before .before .before .before .before .before .before .before .several in
-    let e = v .ensures .1 in
-    let p = v .ensures .0 (grammarOf (c .before .before .before .before .before .before .before .before .before .before .before .before .before .before .before .before .before .args .edition)) (nested (c .before .before .before .before .before .before .before .before .before .before .before .before .before .before .before .before .before .args .message .now) (c .before .before .before .before .before .before .before .before .before .before .before .before .before .before .before .before .before .args .lent) (grammarOf (c .before .before .before .before .before .before .before .before .before .before .before .before .before .before .before .before .before .args .edition)) (c .before .before .before .before .before .before .before .before .before .before .before .before .before .before .before .before .before .args .levels)) in
-    let l = c .before .before .before .plain2 in
-    rw (c .plus .ensures) (list-passed _ _ _ _ _ _ (l .result) _ _ _ _ _ p (l .ensures .0), (list-within (l .result) _ _ _ _ _ (e .on) (l .ensures .1 .1) (l .ensures .1 .0), each-byte (l .result) _ _ _ (e .on) (l .ensures .1 .1)))
+    let r = c .before .before .before .before .before .before .several in
+    let v = c .before .before .rest in
+    (v .ensures .0 _ _ _ (r .ensures .0 (grammarOf (c .before .before .before .before .before .before .before .before .before .before .before .before .before .args .edition)) (nested (c .before .before .before .before .before .before .before .before .before .before .before .before .before .args .message .now) (c .before .before .before .before .before .before .before .before .before .before .before .before .before .args .lent) (grammarOf (c .before .before .before .before .before .before .before .before .before .before .before .before .before .args .edition)) (c .before .before .before .before .before .before .before .before .before .before .before .before .before .args .levels))), v .ensures .1 _ (r .ensures .1 .on))
 
 member-member-start-requires : (t : ℕ) → member-lts.Need-member-start-requires (member-calls t) (member-at t) member.Post
 member-member-start-requires t c κs =
@@ -545,17 +625,48 @@ plain-loop-again t c =
     let p = rw e at (rw (s .0) at (v .ensures .0)) in
     (omega arith, v .kept .1 .1 .0 ∙ i .1, omega arith, λ fuel₀ h. until-passed _ _ _ _ _ _ _ _ _ _ _ _ _ _ _ (until-skip _ _ _ _ _ _ _ _ _ _ _ (rw (← s .0) (s .1 .0)) (i .3 fuel₀ h)) p)
 
-pub +container+counted+following+held+member+plain-spec : {M : Type 1} → statement M
-+container+counted+following+held+member+plain-spec =
-    close μ-container μ-counted μ-following μ-held μ-member μ-plain (λ t. container-lts.spec (container-calls t) (container-at t)
+rest-closing-mark-requires : (t : ℕ) → rest-lts.Need-closing-mark-requires (rest-calls t) (rest-at t) rest.Post
+rest-closing-mark-requires t c κs = search needs
+
+rest-stands-requires : (t : ℕ) → rest-lts.Need-stands-requires (rest-calls t) (rest-at t) rest.Post
+rest-stands-requires t c κs = search needs
+
+rest-returns : (t : ℕ) → rest-lts.Need-returns (rest-calls t) (rest-at t) rest.Post
+rest-returns t c =
+    let a = stands-there _ _ _ (sym (c .before .stands .ensures) ∙ c .if1 .taken) in
+    let k = rw (c .before .before .closing-mark .ensures) at (a .1) in
+    ((λ start first before p fuel h. passed-stop _ _ _ _ _ _ fuel _ _ _ _ h p (closing-here _ _ (openingOf (c .before .before .before .before .before .args .brace)) (a .0) k) (a .0) k), (λ start h. (omega (arith, a .0, h), h)))
+
+rest-plain-requires : (t : ℕ) → rest-lts.Need-plain-requires (rest-calls t) (rest-at t) rest.Post
+rest-plain-requires t c κs = (omega arith, omega arith)
+
+rest-plus-requires : (t : ℕ) → rest-lts.Need-plus-requires (rest-calls t) (rest-at t) rest.Post
+rest-plus-requires t c κs =
+    let l = c .before .before .plain in
+    plus-small (l .result) 0 _ _ _ _ (omega (arith, c .before .before .before .before .before .before .before .before .before .pre .1 .1)) (omega (arith, c .before .before .before .before .before .before .before .before .before .pre .1 .0)) (l .ensures .1 .1) (l .ensures .1 .0)
+
+rest-same-length : (t : ℕ) → rest-lts.Need-same-length (rest-calls t) (rest-at t) rest.Post
+rest-same-length t c = omega arith
+
+rest-returns-2 : (t : ℕ) → rest-lts.Need-returns-2 (rest-calls t) (rest-at t) rest.Post
+rest-returns-2 t c =
+    let l = c .before .before .before .plain in
+    rw (c .plus .ensures) ((λ start first before p. list-passed _ _ _ _ _ _ (l .result) _ _ _ _ _ p (l .ensures .0)), (λ start h. (list-within (l .result) _ _ _ _ _ h (l .ensures .1 .1) (l .ensures .1 .0), each-byte (l .result) _ _ _ h (l .ensures .1 .1))))
+
+pub +container+counted+deep+following+held+member+plain+rest-spec : {M : Type 1} → statement M
++container+counted+deep+following+held+member+plain+rest-spec =
+    close μ-container μ-counted μ-deep μ-following μ-held μ-member μ-plain μ-rest (λ t. container-lts.spec (container-calls t) (container-at t)
     container.Post (container-add-below t) (container-header-at-requires t) (container-enum-known-n t) (container-enum-told t) (container-typed-requires t) (container-enum-known-n-2 t) (container-sub-left t) (container-counted-requires t) (container-close-requires t) (container-enum-told-2 t) (container-add-start t) (container-sub-left-2 t) (container-plain-requires t) (container-close-requires-2 t) (container-returns t) (container-same-length t) (container-returns-2 t) (container-same-length-2 t) (container-returns-3 t) (container-same-length-3 t) (container-returns-4 t)) (λ t. counted-lts.spec (counted-calls t) (counted-at t)
     counted.Post
     counted-Inv-loop
-    counted-μ-loop (counted-loop-holds t) (counted-sub-several t) (counted-several-requires t) (counted-add-count t) (counted-loop-less t) (counted-loop-again t) (counted-skip-requires t) (counted-member-requires t) (counted-enum-known-number t) (counted-same-length t) (counted-returns t) (counted-enum-known-next t) (counted-add-count-2 t) (counted-loop-less-2 t) (counted-loop-again-2 t) (counted-same-length-2 t) (counted-returns-2 t)) (λ t. following-lts.spec (following-calls t) (following-at t)
+    counted-μ-loop (counted-loop-holds t) (counted-sub-several t) (counted-several-requires t) (counted-add-count t) (counted-loop-less t) (counted-loop-again t) (counted-skip-requires t) (counted-member-requires t) (counted-enum-known-number t) (counted-same-length t) (counted-returns t) (counted-enum-known-next t) (counted-add-count-2 t) (counted-loop-less-2 t) (counted-loop-again-2 t) (counted-same-length-2 t) (counted-returns-2 t)) (λ t. deep-lts.spec (deep-calls t) (deep-at t)
+    deep.Post (deep-opens-deep-requires t) (deep-rest-requires t) (deep-same-length t) (deep-returns t) (deep-shared-slice-read-inner t) (deep-add-next t) (deep-add-below t) (deep-sub-deep t) (deep-deep-requires t) (deep-close-requires t) (deep-enum-known-n t) (deep-enum-known-at t) (deep-rest-requires-2 t) (deep-same-length-2 t) (deep-returns-2 t) (deep-same-length-3 t) (deep-returns-3 t)) (λ t. following-lts.spec (following-calls t) (following-at t)
     following.Post (following-opens-plain-requires t) (following-shared-slice-read-inner t) (following-add-start t) (following-add-below t) (following-sub-held t) (following-held-requires t) (following-close-requires t) (following-one-requires t) (following-same-length t) (following-returns t) (following-several-requires t) (following-same-length-2 t) (following-returns-2 t) (following-member-requires t) (following-one-requires-2 t) (following-same-length-3 t) (following-returns-3 t)) (λ t. held-lts.spec (held-calls t) (held-at t)
-    held.Post (held-byte-at-requires t) (held-is-opening-requires t) (held-plain-requires t) (held-same-length t) (held-returns t) (held-several-requires t) (held-closing-mark-requires t) (held-stands-requires t) (held-same-length-2 t) (held-returns-2 t) (held-plain-requires-2 t) (held-plus-requires t) (held-same-length-3 t) (held-returns-3 t)) (λ t. member-lts.spec (member-calls t) (member-at t)
+    held.Post (held-byte-at-requires t) (held-is-opening-requires t) (held-deep-requires t) (held-same-length t) (held-returns t) (held-several-requires t) (held-rest-requires t) (held-same-length-2 t) (held-returns-2 t)) (λ t. member-lts.spec (member-calls t) (member-at t)
     member.Post (member-member-start-requires t) (member-enum-known-n t) (member-enum-known-next t) (member-enum-known-b t) (member-container-requires t) (member-same-length t) (member-returns t) (member-same-length-2 t) (member-returns-2 t) (member-same-length-3 t) (member-returns-3 t))
-    λ t. plain-lts.spec (plain-calls t) (plain-at t)
+    (λ t. plain-lts.spec (plain-calls t) (plain-at t)
     plain.Post
     plain-Inv-loop
-    plain-μ-loop (plain-closing-mark-requires t) (plain-loop-holds t) (plain-skip-requires t) (plain-same-length t) (plain-returns t) (plain-shared-slice-read-if2 t) (plain-same-length-2 t) (plain-returns-2 t) (plain-following-requires t) (plain-enum-known-number t) (plain-same-length-3 t) (plain-returns-3 t) (plain-enum-known-next t) (plain-add-count t) (plain-loop-less t) (plain-loop-again t)
+    plain-μ-loop (plain-closing-mark-requires t) (plain-loop-holds t) (plain-skip-requires t) (plain-same-length t) (plain-returns t) (plain-shared-slice-read-if2 t) (plain-same-length-2 t) (plain-returns-2 t) (plain-following-requires t) (plain-enum-known-number t) (plain-same-length-3 t) (plain-returns-3 t) (plain-enum-known-next t) (plain-add-count t) (plain-loop-less t) (plain-loop-again t))
+    λ t. rest-lts.spec (rest-calls t) (rest-at t)
+    rest.Post (rest-closing-mark-requires t) (rest-stands-requires t) (rest-returns t) (rest-plain-requires t) (rest-plus-requires t) (rest-same-length t) (rest-returns-2 t)
