@@ -1,5 +1,1 @@
-pub mod ItemCases
-pub mod ItemLaws
-pub mod ContainerCases
 pub mod MessageCases
-pub mod Following

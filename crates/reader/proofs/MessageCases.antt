@@ -19,7 +19,7 @@ use Rattle.format.proofs.Forests.{length-rows}
 use Rattle.rows.specs.Clearing.{clearedFrom}
 use Rattle.rows.proofs.Overlay.{lay-cleared}
 use Rattle.tokens.specs.Answers.{Laid}
-use Rattle.reader.specs.Values.{memberOf}
+use Rattle.items.specs.Headers.{memberOf}
 use Rattle.reader.specs.Message.{Lies, frontWords}
 
 module _ (m : List ℕ) (lent : ℕ) (grammar : Grammar) where

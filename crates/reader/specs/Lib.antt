@@ -1,3 +1,1 @@
-pub mod Items
-pub mod Values
 pub mod Message

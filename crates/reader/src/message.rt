@@ -1,9 +1,9 @@
 // A whole message: one value, with any number of `N` before and after.
-use crate::values::member;
 use format::answers::Answer;
 use format::answers::Edition;
 use format::limits::LIMIT;
 use format::limits::VALUE_LEVELS;
+use nesting::values::member;
 use rows::clear;
 use rows::clear_from;
 use rows::count;

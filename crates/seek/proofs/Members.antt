@@ -19,7 +19,7 @@ use Rattle.format.proofs.Forests.{append-none}
 use Rattle.laws.proofs.Holds.{refused, holds, of-done}
 use Rattle.tokens.specs.Answers.{Laid, onto}
 use Rattle.containers.specs.Lists.{closed}
-use Rattle.reader.specs.Items.{Opened}
+use Rattle.items.specs.Items.{Opened}
 use Rattle.seek.specs.Walks.{Comes, Walks}
 use Rattle.seek.specs.declared.steps.Sought.{Sought}
 use Rattle.seek.specs.declared.steps.Sought.the-variants.{Past}

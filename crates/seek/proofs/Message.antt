@@ -15,7 +15,7 @@ use Rattle.format.specs.Containers.{items}
 use Rattle.format.specs.Read.{read, readWhole}
 use Rattle.format.specs.Panel.{tables, pick}
 use Rattle.laws.proofs.Holds.{Holds, refused, holds, bind-law, then-law, guard-law, any-law, of-done}
-use Rattle.reader.specs.Values.{memberOf}
+use Rattle.items.specs.Headers.{memberOf}
 use Rattle.seek.specs.Walks.{Passed}
 use Rattle.seek.proofs.Picking.{pick-past}
 

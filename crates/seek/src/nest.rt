@@ -3,10 +3,10 @@ use crate::steps::Sought;
 use crate::steps::typed_at;
 use format::answers::Edition;
 use format::marks::closing_mark;
-use reader::items::Item;
-use reader::items::member_start;
-use reader::values::Header;
-use reader::values::header_at;
+use items::headers::Header;
+use items::headers::header_at;
+use items::starts::Item;
+use items::starts::member_start;
 use scan::noops::skip;
 ghost use Prim.Native.Nat.{ℕ, _+_, _≤_, _<_};
 ghost use mathlib.Core.Path.{_≡_};
@@ -20,7 +20,7 @@ ghost use Rattle.format.specs.Sequences.{spaced, repeat, until};
 ghost use Rattle.format.specs.Grammars.{new};
 ghost use Rattle.format.specs.Read.{nested};
 ghost use Rattle.tokens.specs.Answers.{Here};
-ghost use Rattle.reader.specs.Values.{memberOf};
+ghost use Rattle.items.specs.Headers.{memberOf};
 ghost use Rattle.seek.specs.Walks.{Walks, Comes, SoughtWithin};
 
 // A member, with so many levels left for what nests in it, and `left` tables to pass.

@@ -8,7 +8,7 @@ use Rattle.format.specs.Grammars.{new}
 use Rattle.format.specs.Marks.{openingOf, closes}
 use Rattle.format.specs.Bytes.{skip}
 use Rattle.format.specs.Sequences.{spaced}
-use Rattle.reader.specs.Values.{memberOf}
+use Rattle.items.specs.Headers.{memberOf}
 use Rattle.containers.proofs.Loops.{Going}
 use Rattle.seek.proofs.Back.{no-fault}
 use Rattle.seek.proofs.Walking.{ended-within, within-from}
@@ -29,8 +29,8 @@ use Rattle.seek.proofs.nest.plain.Reads as plain
 use Rattle.seek.proofs.nest.plain.Kinds as plain-kinds
 use Rattle.seek.proofs.nest.+container+counted+member+plain.Lts-plain as plain-lts
 use Rattle.format.proofs.marks.closing_mark.Reads as closing-mark-reads
-use Rattle.reader.proofs.items.member_start.Reads as member-start-reads
-use Rattle.reader.proofs.values.header_at.Reads as header-at-reads
+use Rattle.items.proofs.starts.member_start.Reads as member-start-reads
+use Rattle.items.proofs.headers.header_at.Reads as header-at-reads
 use Rattle.scan.proofs.noops.skip.Reads as skip-reads
 use Rattle.seek.proofs.steps.typed_at.Reads as typed-at-reads
 use Rattle.seek.proofs.nest.+container+counted+member+plain.{statement}

@@ -1,0 +1,3 @@
+pub mod ItemCases
+pub mod ItemLaws
+pub mod ContainerCases

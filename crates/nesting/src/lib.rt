@@ -1,0 +1,2 @@
+// Arrays and objects, and what nests in them.
+pub mod values;
