@@ -13,7 +13,10 @@ use Rattle.format.specs.Read.{read, readInto}
 use Rattle.demands.specs.Reads.{afterReading}
 
 pub record Editions (m : List ℕ) (rowsLent : ℕ) : Type 0 where
+  -- what the old one accepts
   pub accepted : (f : Forest) → read m rowsLent old ≡ done f → read m rowsLent new ≡ done f
+  -- with any words lent
   pub words : (lent : List ℕ) (f : Forest) → readInto m lent old ≡ done f → afterReading m lent new ≡ afterReading m lent old
+  -- what it refuses, unless with 3 at an `E`
   pub refused : (n place : ℕ) → read m rowsLent old ≡ fault n place → ((n ≡ notAllowed) × (getD m place 0 ≡ 'E') → ⊥)
       → read m rowsLent new ≡ fault n place

@@ -74,6 +74,7 @@ differ m (fault k p) n o = false
 differ m (done f) n (fault k p) = false
 differ m (done f) n (done g) = not (same (counting m (allRows f)) (counting n (allRows g)))
 
+-- the test of pairs that differ
 unfoldable pub allDiffer : Grammar → List (List ℕ × List ℕ) → Bool
 allDiffer grammar [] = true
 allDiffer grammar (p ∷ ps) = differ (p .0) (readWhole (p .0) grammar) (p .1) (readWhole (p .1) grammar) && allDiffer grammar ps

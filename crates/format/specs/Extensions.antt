@@ -18,7 +18,7 @@ use Rattle.format.specs.Sequences.{Reader, rowLeft}
 abbrev pub sizes : List ℕ
 sizes = 4 ∷ 8 ∷ 12 ∷ 4 ∷ 4 ∷ 8 ∷ 8 ∷ 8 ∷ 16 ∷ 16 ∷ []
 
--- the size that an id asks for; n itself, where the id is 0 or above 10 and so opaque
+-- the size that an id asks for; n itself, where the id is 0, the list's place before the sizes, or above 10, past them, and so opaque
 unfoldable pub sizeOf : ℕ → ℕ → ℕ
 sizeOf id n = getD (n ∷ sizes) id n
 

@@ -45,7 +45,7 @@ notThere = 10
 abbrev pub outputTooLong : ℕ
 outputTooLong = 11
 
--- rows don't fit the request: 0
+-- rows don't fit the request; in C also an edition's number that names none: 0
 abbrev pub rowsDontFit : ℕ
 rowsDontFit = 12
 

@@ -25,7 +25,7 @@ kindNumber dimension = 12
 kindNumber extension = 13
 
 -- a token: its kind, its mark, its first byte, its first payload byte (in a schema its offset in the record), its payload's
--- length (in a schema its width), its count and its order
+-- length (in a schema its width), its count (of an extension its id) and its order
 pub record Token : Type 0 where
   pub kind : Kind
   pub mark : ℕ

@@ -24,6 +24,7 @@ use Rattle.items.specs.declared.starts.Item.the-variants.{Fault, Next, O
 pub data Begins : Type 0 where
   scalar text highPrecision opensBracket opensBrace extension other : Begins
 
+-- the tests of `Read.valueBy`, in its order
 unfoldable pub class : Grammar → ℕ → Begins
 class grammar mark =
     if isScalar mark then scalar else

@@ -15,7 +15,7 @@ abbrev pub plusOf : ℕ → Listed → Listed
 plusOf count (Stopped n p) = Stopped n p
 plusOf count (Went next row more) = Went next row (count + more)
 
--- as many as bytes at most
+-- all together within the limit
 abbrev pub Small : ℕ → Listed → Type 0
 Small count (Stopped n p) = Unit {0}
 Small count (Went next row more) = count + more ≤ limit

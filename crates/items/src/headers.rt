@@ -52,7 +52,7 @@ pub fn header_at(message: &[u8], lent: usize, levels: usize, at: usize, row: usi
     }
 }
 
-// An opening mark.
+// True at opening marks only. That it is true at all of them is for speed, and not promised; so with the next two.
 pub fn is_opening(b: u8) -> bool
     ensures { λ r. ⌜ (r ≡ true → b ≡ opens (openingOf (eqb b left-brace))) ⌝ }
 {

@@ -40,7 +40,7 @@ abbrev pub FollowingWithin : Listed → ℕ → ℕ → ℕ → Type 0
 FollowingWithin (Stopped n p) at high lent = Unit {0}
 FollowingWithin (Went next row count) at high lent = FollowingEnds at high lent next row count
 
--- members up to the closing mark, whatever they begin with, where these are read and end before `at` and `row`
+-- members up to the closing mark from any `start` on, given that `count` of them are read and end before `at` and `row`
 abbrev pub RestMeets : Listed → List ℕ → ℕ → Grammar → ℕ → Opening → ℕ → ℕ → ℕ → List ℕ → List ℕ → Type 0
 RestMeets r m lent grammar levels opening at row count now after = (start first : ℕ) (before : List ℕ)
     → Passed m (closes opening) (memberOf m lent grammar levels opening) start first before at row count now → PlainMeets r m lent grammar levels opening start first before after
@@ -50,5 +50,6 @@ abbrev pub EachByte : Listed → ℕ → Type 0
 EachByte (Stopped n p) start = Unit {0}
 EachByte (Went next row count) start = start + count ≤ next
 
+-- where these end
 abbrev pub RestWithin : Listed → ℕ → ℕ → ℕ → ℕ → Type 0
 RestWithin r high lent at count = (start : ℕ) → start + count ≤ at → ListWithin r start high lent × EachByte r start

@@ -1,5 +1,5 @@
--- Tokens that are written as their rows say: one whole; another from what its row writes before those below it, from
--- those, and from what its row writes after them; a table from its schema and its dimensions, with something between.
+-- Tokens that are written as their rows say: a single one whole; another, an extension too, from what its row writes before those below it,
+-- from those, and from what its row writes after them; a table from its schema and its dimensions, with something between.
 use Prim.Native.Nat.{ℕ}
 use mathlib.Core.Path.{_≡_}
 use mathlib.Core.Bool.{true, false}

@@ -21,14 +21,18 @@ oldEdition = 1
 abbrev pub newEdition : ℕ
 newEdition = 2
 
--- the grammar of an edition by its number; 12 at 0 for a number that names none
+-- a number that names no edition: 12 at 0
+abbrev pub noEdition : Outcome Grammar
+noEdition = fault rowsDontFit 0
+
+-- the grammar of an edition by its number
 unfoldable pub grammarNumbered : ℕ → Outcome Grammar
-grammarNumbered n = if eqb n oldEdition then done old else if eqb n newEdition then done new else fault rowsDontFit 0
+grammarNumbered n = if eqb n oldEdition then done old else if eqb n newEdition then done new else noEdition
 
 -- the same, of the edition that a number names
 abbrev pub grammarNamed : Named → Outcome Grammar
 grammarNamed (By e) = done (grammarOf e)
-grammarNamed Nothing = fault rowsDontFit 0
+grammarNamed Nothing = noEdition
 
 -- reading into lent words by an edition's number
 unfoldable pub readNumbered : ℕ → List ℕ → List ℕ → Outcome Forest

@@ -52,7 +52,7 @@ module _ (m : List ℕ) where
   unfoldable pub payloadAt : Row → List ℕ
   payloadAt r = bytes m (r .payload) (r .extent)
 
-  -- a token with none below it
+  -- a token that is written whole
   unfoldable pub single : Row → List ℕ
   single r =
       if eqb (r .kind) (kindNumber scalar) then letterOf (r .mark) ∷ payloadAt r else
