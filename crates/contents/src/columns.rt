@@ -1,9 +1,9 @@
 // The values of one leaf, record after record.
+use content::content::is_content;
 use format::marks::CHAR;
 use format::marks::Mark;
 use format::marks::TEXT;
 use format::marks::TRUE;
-use scan::content::is_content;
 use scan::integers::Parsed;
 use scan::integers::integer;
 ghost use mathlib.Core.Path.{_≡_};

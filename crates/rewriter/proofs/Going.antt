@@ -6,8 +6,8 @@ use native.Mathlib.Omega.{arith}
 use Rattle.format.specs.Tokens.{Forest, none, node, size}
 use Rattle.format.specs.Rows.{Row}
 use Rattle.format.specs.HouseForm.{token, written, house}
-use Rattle.writer.specs.Puts.{Puts}
-use Rattle.writer.proofs.Putting.{puts-none, puts-append}
+use Rattle.pieces.specs.Puts.{Puts}
+use Rattle.pieces.proofs.Putting.{puts-none, puts-append}
 use Rattle.rewriter.specs.Held.{Held}
 use Rattle.rewriter.proofs.Steps.{house-none, Step}
 

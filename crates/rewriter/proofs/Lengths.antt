@@ -12,8 +12,9 @@ use Rattle.format.specs.Rows.{Row}
 use Rattle.format.specs.Bytes.{bytes}
 use Rattle.format.specs.Extensions.{idBytes}
 use Rattle.format.specs.HouseForm.{smallInteger}
-use Rattle.writer.specs.Pieces.{shapeStart, shapeEnd, payloadAt, single, head, middle, tail}
-use Rattle.writer.proofs.Putting.{integer-few, id-few, end-few}
+use Rattle.pieces.specs.Shapes.{shapeStart, shapeEnd}
+use Rattle.writer.specs.Pieces.{payloadAt, single, head, middle, tail}
+use Rattle.pieces.proofs.Putting.{integer-few, id-few, end-few}
 
 -- so many bytes at most
 record Few (n : ℕ) (l : List ℕ) : Type 0 where

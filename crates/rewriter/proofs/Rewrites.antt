@@ -20,7 +20,7 @@ use Rattle.laws.proofs.Reading.{rows-few}
 use Rattle.storage.specs.Places.{Filled}
 use Rattle.storage.proofs.Places.{read-fills, filled-rows, filled-enough}
 use Rattle.meaning.proofs.Accepting.{read-finds}
-use Rattle.writer.specs.Puts.{Puts}
+use Rattle.pieces.specs.Puts.{Puts}
 use Rattle.rewriter.specs.Held.{Held, Room}
 use Rattle.rewriter.specs.Settled.{fitsIn, Settled, fitting, tooLong}
 use Rattle.rows.specs.Clearing.{clearedFrom}

@@ -15,7 +15,7 @@ ghost use lib.Dec.{eqb};
 ghost use Rattle.format.specs.Tokens.{kindNumber, table as tableKind};
 ghost use Rattle.format.specs.HouseForm.{token as tokenIn, written, house};
 ghost use Rattle.rows.specs.Row.{rowOf};
-ghost use Rattle.writer.specs.Puts.{Puts};
+ghost use Rattle.pieces.specs.Puts.{Puts};
 ghost use Rattle.rewriter.specs.Held.{Held, HeldToken, Room, most};
 
 // The table of row r, whose rows end at `link`: its schema, and then its dimensions.

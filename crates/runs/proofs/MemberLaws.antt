@@ -27,7 +27,7 @@ use Rattle.tokens.specs.declared.Step.the-variants.{Next}
 use Rattle.tokens.proofs.Cases.{after, scalar-row, text-there, key-there}
 use Rattle.tokens.proofs.Laying.{laid-alone}
 use Rattle.tokens.proofs.Sofar.{seq-meets}
-use Rattle.runs.specs.Ends.{ScalarEnds, TextEnds, KeyEnds, ValueEnds, textThere, scalarThere}
+use Rattle.ends.specs.Ends.{ScalarEnds, TextEnds, KeyEnds, ValueEnds, textThere, scalarThere}
 use Rattle.runs.specs.Runs.{Begins, PassedIn, RunEnds, valueStart, valueToken}
 use Rattle.runs.specs.declared.members.Run.{Run}
 use Rattle.runs.proofs.Passing.{passed-start, passed-one, passed-join}

@@ -1,4 +1,3 @@
 // Members read one after another in a loop that calls nothing of the reader: scalars, short texts, and keys with these. It changes no
 // answer: the reader reads the same members one by one, and reads what is left to it here.
-pub mod ends;
 pub mod members;

@@ -1,12 +1,12 @@
 // Members one after another: each loop reads one sort of them, and stops where another begins.
-use crate::ends::LONGEST;
-use crate::ends::alike_end;
-use crate::ends::key_end;
-use crate::ends::scalar_end;
-use crate::ends::size_of;
-use crate::ends::sizes;
-use crate::ends::text_end;
-use crate::ends::value_end;
+use ends::scalars::alike_end;
+use ends::scalars::scalar_end;
+use ends::sizes::LONGEST;
+use ends::sizes::size_of;
+use ends::sizes::sizes;
+use ends::texts::key_end;
+use ends::texts::text_end;
+use ends::texts::value_end;
 use format::answers::Kind;
 use format::marks::Mark;
 use format::marks::TEXT;
@@ -22,7 +22,7 @@ ghost use Rattle.format.specs.Answers.{kindOf};
 ghost use Rattle.format.specs.Rows.{rowOf};
 ghost use Rattle.rows.specs.Row.{store as storeIn};
 ghost use Rattle.tokens.specs.Answers.{Here};
-ghost use Rattle.runs.specs.Ends.{Sized};
+ghost use Rattle.ends.specs.Ends.{Sized};
 ghost use Rattle.runs.specs.Runs.{RunMeets, valueStart, valueToken};
 
 // The place after the members read, the row after theirs, and how many they are.

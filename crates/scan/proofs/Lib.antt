@@ -1,4 +1,2 @@
-pub mod All
 pub mod Digits
-pub mod Shape
 pub mod Stands

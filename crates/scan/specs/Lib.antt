@@ -1,4 +1,2 @@
-pub mod Stages
-pub mod Owed
 pub mod Numbers
 pub mod Stands

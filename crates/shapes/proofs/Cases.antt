@@ -1,4 +1,4 @@
--- The cases of dimensions, of vectors and of shapes, in the order of their tests. Assumes nothing.
+-- The cases of vectors and of shapes, in the order of their tests. Assumes nothing.
 use Prim.Native.Nat.{ℕ, zero, suc, _+_, _-_, _≤_, _<_}
 use mathlib.Core.Path.{_≡_, refl}
 use mathlib.Core.Bool.{Bool, true, false}
@@ -8,27 +8,14 @@ use lib.ListN.{length, getD}
 use borrow.Author.Tests.{le-leb, lt-leb, lt-ltb, le-ltb, eq-eqb, ne-eqb}
 use Rattle.format.specs.Conditions.{if_then_else_, between}
 use Rattle.format.specs.Outcome.{fault, done, _>>=_, _>>_, guard}
-use Rattle.format.specs.Limits.{limit, dimensionLimit}
-use Rattle.format.specs.Refusals.{endsTooEarly, notAllowed, wrongInteger, noRowLeft}
-use Rattle.format.specs.Marks.{isInteger, width, '#', '$', '[', ']'}
-use Rattle.format.specs.Tokens as Tokens
-use Rattle.format.specs.Tokens.{Token, Forest, none, alone, plainCount, firstSlowest, firstFastest}
+use Rattle.format.specs.Limits.{dimensionLimit}
+use Rattle.format.specs.Refusals.{endsTooEarly, notAllowed, wrongInteger}
+use Rattle.format.specs.Marks.{isInteger, '#', '$', '[', ']'}
+use Rattle.format.specs.Tokens.{Forest, none, plainCount, firstSlowest, firstFastest}
 use Rattle.format.specs.Bytes.{byte, oneOf}
-use Rattle.format.specs.Integers.{number, integer}
-use Rattle.format.specs.Sequences.{Reader, rowLeft, _⨾_, repeat}
-use Rattle.format.specs.Dimensions.{shaped, dimension, marked, bare, listed, counted, countedBare, vector, slowest, fastest, plain, shape}
-
--- the token of a dimension
-abbrev pub dimensionOf : ℕ → ℕ → ℕ → ℕ → Token
-dimensionOf mark start at n = record {
-  kind = Tokens.dimension;
-  mark = mark;
-  first = at;
-  payload = start;
-  extent = width mark;
-  count = n;
-  order = plainCount;
-}
+use Rattle.format.specs.Integers.{integer}
+use Rattle.format.specs.Sequences.{Reader, _⨾_, repeat}
+use Rattle.format.specs.Dimensions.{shaped, marked, bare, listed, counted, countedBare, vector, slowest, fastest, plain, shape}
 
 -- ---- so many
 
@@ -43,43 +30,6 @@ repeat-more zero item at row h = absurd (omega arith)
 repeat-more (suc n) item at row h = let q : suc n - 1 ≡ n = omega arith in rw q
 
 module _ (m : List ℕ) (lent : ℕ) where
-  -- ---- a dimension
-
-  module _ (mark start at row : ℕ) where
-    pub dimension-no-row : lent ≤ row → dimension m lent mark start at row ≡ fault noRowLeft at
-    unfolding dimension rowLeft guard _>>_
-    dimension-no-row h = rw (le-ltb _ _ h)
-
-    pub dimension-wrong : (x y : ℕ) → row < lent → number m limit mark at start ≡ fault x y → dimension m lent mark start at row ≡ fault x y
-    unfolding dimension rowLeft guard _>>_ _>>=_
-    dimension-wrong x y h e = rw (lt-ltb _ _ h, e)
-
-    pub dimension-there : (n next : ℕ) → row < lent → number m limit mark at start ≡ done (n, next)
-        → dimension m lent mark start at row ≡ done (alone (dimensionOf mark start at n), next)
-    unfolding dimension rowLeft guard _>>_ _>>=_
-    dimension-there n next h e = rw (lt-ltb _ _ h, e)
-
-  module _ (at row : ℕ) where
-    pub marked-early : length m ≤ at → marked m lent at row ≡ fault endsTooEarly (length m)
-    unfolding marked oneOf byte guard _>>_ _>>=_
-    marked-early h = rw (le-ltb _ _ h)
-
-    pub marked-other : at < length m → isInteger (getD m at 0) ≡ false → marked m lent at row ≡ fault notAllowed at
-    unfolding marked oneOf byte guard _>>_ _>>=_
-    marked-other h e = rw (lt-ltb _ _ h, e)
-
-    pub marked-there : at < length m → isInteger (getD m at 0) ≡ true → marked m lent at row ≡ dimension m lent (getD m at 0) (at + 1) at row
-    unfolding marked oneOf byte guard _>>_ _>>=_
-    marked-there h e = rw (lt-ltb _ _ h, e)
-
-    pub bare-early : (mark : ℕ) → length m ≤ at → bare m lent mark at row ≡ fault endsTooEarly (length m)
-    unfolding bare byte guard _>>_ _>>=_
-    bare-early mark h = rw (le-ltb _ _ h)
-
-    pub bare-there : (mark : ℕ) → at < length m → bare m lent mark at row ≡ dimension m lent mark at at row
-    unfolding bare byte guard _>>_ _>>=_
-    bare-there mark h = rw (lt-ltb _ _ h)
-
   -- ---- vectors
 
   module _ (place at row : ℕ) where

@@ -1,6 +1,6 @@
 // What stands after a `#`: a plain count or a dimension vector.
-use crate::Dims;
 use crate::vectors::vector;
+use dimensions::Dims;
 use format::marks::ARRAY;
 use format::marks::ARRAY_END;
 use scan::integers::Parsed;

@@ -1,45 +1,26 @@
 // Dimension vectors: their three forms, from the byte after the `[` on.
-use crate::Dims;
-use crate::dimensions::Form;
-use crate::dimensions::item;
-use crate::dimensions::marked;
+use dimensions::Dims;
+use dimensions::forms::Form;
+use dimensions::forms::item;
+use dimensions::forms::marked;
+use dimensions::products::times;
 use format::limits::DIMENSION_LIMIT;
-use format::limits::LIMIT;
 use format::marks::ARRAY_END;
 use format::marks::COUNT;
 use format::marks::Mark;
 use format::marks::TYPE;
 use scan::integers::Parsed;
 use scan::integers::integer;
-ghost use mathlib.Core.Path.{_≡_};
-ghost use Prim.Native.Nat.{_+_, _*_, _≤_};
 ghost use lib.ListN.{length};
-ghost use Rattle.format.specs.Limits.{limit, dimensionLimit};
+ghost use Rattle.format.specs.Limits.{dimensionLimit};
 ghost use Rattle.format.specs.Sequences.{repeat, _⨾_};
 ghost use Rattle.format.specs.Dimensions as Dimensions;
 ghost use Rattle.format.specs.Dimensions.{counted as countedAt, countedBare as countedBareAt, vector as vectorAt};
 ghost use Rattle.tokens.specs.Answers.{Here};
-ghost use Rattle.shapes.specs.Answers.{capped, Meets, Within, itemOf, Wide};
+ghost use Rattle.dimensions.specs.Answers.{Meets, Within, itemOf, Wide};
 
 // How many dimensions there may be, as a count is read.
 const MOST_DIMENSIONS: u32 = DIMENSION_LIMIT as u32;
-
-// The highest product, and the most that one is said to be.
-const MOST: usize = LIMIT as usize;
-
-const OVER: usize = MOST + 1;
-
-// The product of two numbers, each at most one over the limit; one over it where it would be more.
-fn times(many: usize, n: usize) -> usize
-    requires { ⌜ (many ≤ limit + 1) × (n ≤ limit + 1) ⌝ }
-    ensures { λ r. ⌜ r ≡ capped (many * n) ⌝ }
-{
-    let product = many * n;
-    if MOST < product {
-        return OVER;
-    }
-    product
-}
 
 // n dimensions.
 fn repeated(

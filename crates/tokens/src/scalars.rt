@@ -2,11 +2,11 @@
 use crate::Step;
 use crate::entry::Entry;
 use crate::entry::put;
+use content::content::is_content;
 use format::answers::Kind;
 use format::limits::LIMIT;
 use format::marks::Mark;
 use format::marks::TEXT;
-use scan::content::is_content;
 use scan::integers::Parsed;
 use scan::integers::integer;
 use scan::integers::number;

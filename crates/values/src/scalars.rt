@@ -2,6 +2,7 @@
 use crate::floats::double;
 use crate::floats::single;
 use crate::half::single_bits;
+use content::content::is_content;
 use format::answers::Kind;
 use format::answers::Token;
 use format::answers::Value;
@@ -15,7 +16,6 @@ use format::marks::Mark;
 use format::marks::SINGLE;
 use format::marks::TRUE;
 use scan::bytes::within;
-use scan::content::is_content;
 use scan::integers::little_endian;
 ghost use mathlib.Core.Path.{_≡_};
 ghost use mathlib.Core.Bool.{true, _&&_};

@@ -6,12 +6,13 @@ use mathlib.Core.Bool.{Bool}
 use mathlib.Core.List.{List, [], _∷_, _++_}
 use lib.Dec.{eqb}
 use Rattle.format.specs.Conditions.{if_then_else_, among}
-use Rattle.format.specs.Marks.{openingOf, closes, letterOf, 'S', '#', '$', '[', ']'}
-use Rattle.format.specs.Tokens.{kindNumber, scalar, text, highPrecision, key, array, object, packed, table, leaf, schemaRecord, dimension, extension, plainCount, firstSlowest}
+use Rattle.format.specs.Marks.{openingOf, closes, letterOf, 'S', '#', '$', '['}
+use Rattle.format.specs.Tokens.{kindNumber, scalar, text, highPrecision, key, array, object, packed, table, leaf, schemaRecord, dimension, extension}
 use Rattle.format.specs.Rows.{Row}
 use Rattle.format.specs.Bytes.{bytes}
 use Rattle.format.specs.Extensions.{idBytes}
 use Rattle.format.specs.HouseForm.{smallInteger}
+use Rattle.pieces.specs.Shapes.{shapeStart, shapeEnd}
 
 -- the kinds of tokens that are written whole
 unfoldable pub isSingle : ℕ → Bool
@@ -20,20 +21,6 @@ isSingle = among (kindNumber scalar ∷ kindNumber text ∷ kindNumber highPreci
 -- arrays and objects
 unfoldable pub isList : ℕ → Bool
 isList = among (kindNumber array ∷ kindNumber object ∷ [])
-
--- of a shape, what stands before its dimensions: the plain count, or one bracket or two
-unfoldable pub shapeStart : ℕ → ℕ → List ℕ
-shapeStart order n =
-    if eqb order plainCount then smallInteger n else
-    if eqb order firstSlowest then '[' ∷ [] else
-    '[' ∷ '[' ∷ []
-
--- and what stands after them
-unfoldable pub shapeEnd : ℕ → List ℕ
-shapeEnd order =
-    if eqb order plainCount then [] else
-    if eqb order firstSlowest then ']' ∷ [] else
-    ']' ∷ ']' ∷ []
 
 -- before those below it
 unfoldable pub head : Row → List ℕ

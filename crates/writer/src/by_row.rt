@@ -1,7 +1,4 @@
 // What the row of a token writes of it.
-use crate::bytes::put;
-use crate::bytes::put_integer;
-use crate::bytes::put_part;
 use crate::kinds::DIMENSION;
 use crate::kinds::EXTENSION;
 use crate::kinds::KEY;
@@ -11,18 +8,21 @@ use crate::kinds::SCALAR;
 use crate::kinds::SCHEMA_RECORD;
 use crate::kinds::TABLE;
 use crate::kinds::is_list;
-use crate::pieces::put_counted;
-use crate::pieces::put_key;
-use crate::pieces::put_leaf;
-use crate::pieces::put_scalar;
-use crate::pieces::put_shape_end;
-use crate::pieces::put_shape_start;
-use crate::pieces::put_text;
 use format::marks::ARRAY;
 use format::marks::COUNT;
 use format::marks::Mark;
 use format::marks::TYPE;
 use format::marks::closing_mark;
+use pieces::bytes::put;
+use pieces::bytes::put_integer;
+use pieces::bytes::put_part;
+use pieces::pieces::put_counted;
+use pieces::pieces::put_key;
+use pieces::pieces::put_leaf;
+use pieces::pieces::put_scalar;
+use pieces::pieces::put_shape_end;
+use pieces::pieces::put_shape_start;
+use pieces::pieces::put_text;
 use rows::Row;
 use scan::bytes::byte_at;
 ghost use mathlib.Core.Path.{_≡_};
@@ -33,8 +33,9 @@ ghost use Rattle.format.specs.Extensions.{idBytes};
 ghost use Rattle.format.specs.HouseForm.{smallInteger};
 ghost use Rattle.format.specs.Marks.{'#', '$', '['};
 ghost use Rattle.rows.specs.Row.{rowOf};
-ghost use Rattle.writer.specs.Puts.{Puts};
-ghost use Rattle.writer.specs.Pieces.{payloadAt, single, head, middle, tail, shapeStart, shapeEnd};
+ghost use Rattle.pieces.specs.Puts.{Puts};
+ghost use Rattle.pieces.specs.Shapes.{shapeStart, shapeEnd};
+ghost use Rattle.writer.specs.Pieces.{payloadAt, single, head, middle, tail};
 
 // The n bytes from a place on, as far as the message has them.
 fn part<'a>(message: &'a [u8], at: usize, n: usize) -> &'a [u8]

@@ -1,6 +1,3 @@
-// Bytes put into lent bytes one after another. What has no room is only counted, so that a caller who runs out of room learns how
-// much was needed.
+// What a row writes of its token in house form, put into lent bytes.
 pub mod by_row;
-pub mod bytes;
 pub mod kinds;
-pub mod pieces;

@@ -7,7 +7,7 @@ use lib.ListN.{length}
 use borrow.Author.Needs.{needs}
 use borrow.Author.Tests.{eq-eqb, ne-eqb}
 use Rattle.rows.specs.Row as Row
-use Rattle.writer.proofs.Putting.{puts-append}
+use Rattle.pieces.proofs.Putting.{puts-append}
 use Rattle.rewriter.specs.Held.{Held, most}
 use Rattle.rewriter.proofs.Steps.{held-step, token-single, token-nested, token-table}
 use Rattle.rewriter.proofs.Going.{Going, going-start, going-on, going-end}

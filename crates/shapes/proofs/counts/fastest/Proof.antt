@@ -3,7 +3,7 @@ use mathlib.Core.Path.{sym}
 use native.Mathlib.Omega.{arith}
 use borrow.Author.Needs.{needs}
 use Rattle.shapes.proofs.Cases.{fastest-wrong, fastest-early, fastest-open, fastest-there}
-use Rattle.shapes.proofs.Products.{told-shaped}
+use Rattle.shapes.proofs.Told.{told-shaped}
 use Rattle.shapes.proofs.counts.fastest.Statement.{statement}
 use Rattle.shapes.proofs.counts.fastest.Tie as tie
 

@@ -4,7 +4,7 @@ use native.Mathlib.Omega.{arith}
 use borrow.Author.Needs.{needs}
 use Rattle.scan.specs.Numbers.{parsed}
 use Rattle.shapes.proofs.Cases.{plain-wrong, plain-there}
-use Rattle.shapes.proofs.Products.{told-plain}
+use Rattle.shapes.proofs.Told.{told-plain}
 use Rattle.shapes.proofs.counts.plain.Statement.{statement}
 use Rattle.shapes.proofs.counts.plain.Tie as tie
 

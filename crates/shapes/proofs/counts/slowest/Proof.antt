@@ -2,7 +2,7 @@
 use native.Mathlib.Omega.{arith}
 use borrow.Author.Needs.{needs}
 use Rattle.shapes.proofs.Cases.{slowest-wrong, slowest-there}
-use Rattle.shapes.proofs.Products.{told-shaped}
+use Rattle.shapes.proofs.Told.{told-shaped}
 use Rattle.shapes.proofs.counts.slowest.Statement.{statement}
 use Rattle.shapes.proofs.counts.slowest.Tie as tie
 

@@ -4,7 +4,7 @@ use native.Mathlib.Omega.{arith}
 use borrow.Author.Needs.{needs}
 use Rattle.scan.specs.Numbers.{parsed}
 use Rattle.shapes.proofs.Cases.{counted-wrong, counted-few, counted-over, counted-there}
-use Rattle.shapes.proofs.Products.{within-from}
+use Rattle.dimensions.proofs.Going.{within-from}
 use Rattle.shapes.proofs.vectors.counted.Statement.{statement}
 use Rattle.shapes.proofs.vectors.counted.Tie as tie
 

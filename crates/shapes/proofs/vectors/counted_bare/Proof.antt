@@ -8,7 +8,7 @@ use lib.ListN.{getD}
 use Rattle.format.specs.Marks.{isInteger}
 use Rattle.format.proofs.MarkFacts.{integer-wide}
 use Rattle.shapes.proofs.Cases.{counted-bare-early, counted-bare-other, counted-bare-short, counted-bare-unlike, counted-bare-there}
-use Rattle.shapes.proofs.Products.{within-from}
+use Rattle.dimensions.proofs.Going.{within-from}
 use Rattle.shapes.proofs.vectors.counted_bare.Statement.{statement}
 use Rattle.shapes.proofs.vectors.counted_bare.Tie as tie
 

@@ -10,7 +10,7 @@ use Rattle.format.specs.Dimensions.{marked, listed}
 use Rattle.tokens.specs.Answers.{Here}
 use Rattle.tokens.proofs.Sofar.{seq-fault}
 use Rattle.shapes.proofs.Cases.{listed-none, listed-early, listed-closed, listed-more}
-use Rattle.shapes.proofs.Products.{Going, going-start, going-as, going-step, going-fault, going-end}
+use Rattle.dimensions.proofs.Going.{Going, going-start, going-as, going-step, going-fault, going-end}
 use Rattle.shapes.proofs.vectors.listed.Statement.{statement}
 use Rattle.shapes.proofs.vectors.listed.Tie as tie
 

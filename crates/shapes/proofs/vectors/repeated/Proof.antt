@@ -8,9 +8,9 @@ use Rattle.format.specs.Limits.{limit}
 use Rattle.format.specs.Sequences.{repeat}
 use Rattle.tokens.specs.Answers.{Here}
 use Rattle.tokens.proofs.Sofar.{seq-fault}
-use Rattle.shapes.specs.Answers.{itemOf}
+use Rattle.dimensions.specs.Answers.{itemOf}
 use Rattle.shapes.proofs.Cases.{repeat-none, repeat-more}
-use Rattle.shapes.proofs.Products.{Going, going-start, going-step, going-fault, going-end}
+use Rattle.dimensions.proofs.Going.{Going, going-start, going-step, going-fault, going-end}
 use Rattle.shapes.proofs.vectors.repeated.Statement.{statement}
 use Rattle.shapes.proofs.vectors.repeated.Tie as tie
 

@@ -2,7 +2,7 @@
 use native.Mathlib.Omega.{arith}
 use borrow.Author.Needs.{needs}
 use Rattle.shapes.proofs.Cases.{vector-early, vector-empty, vector-counted, vector-typed, vector-listed}
-use Rattle.shapes.proofs.Products.{within-from}
+use Rattle.dimensions.proofs.Going.{within-from}
 use Rattle.shapes.proofs.vectors.vector.Statement.{statement}
 use Rattle.shapes.proofs.vectors.vector.Tie as tie
 

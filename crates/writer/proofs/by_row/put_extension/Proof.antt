@@ -2,7 +2,7 @@
 use native.Mathlib.Omega.{arith}
 use borrow.Author.Needs.{needs}
 use Rattle.writer.specs.Pieces.{payloadAt}
-use Rattle.writer.proofs.Putting.{puts-append, id-few}
+use Rattle.pieces.proofs.Putting.{puts-append, id-few}
 use Rattle.writer.proofs.by_row.put_extension.Statement.{statement}
 use Rattle.writer.proofs.by_row.put_extension.Tie as tie
 

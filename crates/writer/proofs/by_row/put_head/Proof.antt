@@ -3,7 +3,7 @@ use borrow.Author.Needs.{needs}
 use borrow.Author.Tests.{ne-eqb}
 use Rattle.format.specs.Conditions.{if_then_else_}
 use Rattle.writer.specs.Pieces.{head}
-use Rattle.writer.proofs.Putting.{puts-append}
+use Rattle.pieces.proofs.Putting.{puts-append}
 use Rattle.writer.proofs.by_row.put_head.Statement.{statement}
 use Rattle.writer.proofs.by_row.put_head.Tie as tie
 

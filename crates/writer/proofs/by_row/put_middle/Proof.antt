@@ -1,7 +1,7 @@
 -- `put_middle`: `#`, and the start of the shape. Assumes nothing.
 use borrow.Author.Needs.{needs}
 use Rattle.writer.specs.Pieces.{middle}
-use Rattle.writer.proofs.Putting.{puts-append}
+use Rattle.pieces.proofs.Putting.{puts-append}
 use Rattle.writer.proofs.by_row.put_middle.Statement.{statement}
 use Rattle.writer.proofs.by_row.put_middle.Tie as tie
 

@@ -1,6 +1,6 @@
 -- `put_packed`: four marks, and the start of the shape. Assumes nothing.
 use borrow.Author.Needs.{needs}
-use Rattle.writer.proofs.Putting.{puts-append}
+use Rattle.pieces.proofs.Putting.{puts-append}
 use Rattle.writer.proofs.by_row.put_packed.Statement.{statement}
 use Rattle.writer.proofs.by_row.put_packed.Tie as tie
 

@@ -1,7 +1,7 @@
 -- `put_payload`: the end of the shape, and the payload. Assumes nothing.
 use native.Mathlib.Omega.{arith}
 use borrow.Author.Needs.{needs}
-use Rattle.writer.proofs.Putting.{puts-append, end-few}
+use Rattle.pieces.proofs.Putting.{puts-append, end-few}
 use Rattle.writer.proofs.by_row.put_payload.Statement.{statement}
 use Rattle.writer.proofs.by_row.put_payload.Tie as tie
 

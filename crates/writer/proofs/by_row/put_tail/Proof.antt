@@ -3,7 +3,7 @@ use borrow.Author.Needs.{needs}
 use borrow.Author.Tests.{eq-eqb, ne-eqb}
 use Rattle.format.specs.Conditions.{if_then_else_, among}
 use Rattle.writer.specs.Pieces.{payloadAt, tail}
-use Rattle.writer.proofs.Putting.{puts-none}
+use Rattle.pieces.proofs.Putting.{puts-none}
 use Rattle.writer.proofs.by_row.put_tail.Statement.{statement}
 use Rattle.writer.proofs.by_row.put_tail.Tie as tie
 
