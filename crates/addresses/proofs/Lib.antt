@@ -1,3 +1,1 @@
-pub mod Capped
-pub mod Numbers
 pub mod SlotCases

@@ -17,7 +17,7 @@ use Rattle.format.specs.Indexes.{inRange, numberIn}
 use Rattle.format.specs.Storage.{memberRow}
 use Rattle.format.specs.Bytes.{within}
 use Rattle.format.specs.Addresses.{Region, along, isPacked, isTable, isSchema, dimensions, seek, inside, packedSlot, tableSlot}
-use Rattle.addresses.specs.Sums.{most, capped}
+use Rattle.indexes.specs.Sums.{most, capped}
 use Rattle.addresses.specs.Slots.{inRecord, Placed}
 
 -- ---- inside the message

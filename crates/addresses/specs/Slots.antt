@@ -11,7 +11,7 @@ use Rattle.format.specs.Marks.{'['}
 use Rattle.format.specs.Rows.{rowAt}
 use Rattle.format.specs.Indexes.{inRange, numberIn}
 use Rattle.format.specs.Addresses.{Region, dimensions, inside}
-use Rattle.addresses.specs.Sums.{capped}
+use Rattle.indexes.specs.Sums.{capped}
 use Rattle.addresses.specs.declared.slots.Slot.{Slot}
 use Rattle.addresses.specs.declared.slots.Slot.the-variants.{Refused, At}
 use Rattle.addresses.specs.declared.slots.Position.{Position}

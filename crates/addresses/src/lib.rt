@@ -1,5 +1,3 @@
 // The slots that addresses name, in rows that may come from anywhere.
 pub mod calls;
-pub mod indexes;
 pub mod slots;
-mod sums;

@@ -1,13 +1,13 @@
 // A slot: the mark that its bytes are read under, its first byte and its width. `size` is the message's length, below 2^63 as
 // every slice's is.
-use crate::indexes::in_range;
-use crate::indexes::number;
-use crate::sums::plus;
-use crate::sums::times;
 use format::answers::Found;
 use format::limits::DIMENSION_LIMIT;
 use format::marks::ARRAY;
 use format::marks::Mark;
+use indexes::in_range;
+use indexes::number;
+use indexes::sums::plus;
+use indexes::sums::times;
 use rows::count;
 use rows::load;
 use ways::dimensions::Gathered;
@@ -20,7 +20,7 @@ ghost use mathlib.Core.List.{List};
 ghost use Prim.Native.Nat.{ℕ, _+_, _*_, _^_, _<_, _≤_};
 ghost use Rattle.format.specs.Rows.{rowAt, rowsIn};
 ghost use Rattle.format.specs.Addresses as Addresses;
-ghost use Rattle.addresses.specs.Sums.{capped};
+ghost use Rattle.indexes.specs.Sums.{capped};
 ghost use Rattle.addresses.specs.Slots.{slotOf, Positions, inRecord};
 
 pub enum Slot {

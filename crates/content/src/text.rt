@@ -1,5 +1,5 @@
 // Text: UTF-8 by shape.
-use crate::content::are_chars;
+use crate::are_chars;
 ghost use mathlib.Core.Path.{_≡_};
 ghost use Rattle.format.specs.Text.{isText};
 ghost use Rattle.content.specs.Owed.{isOwed, canStand};

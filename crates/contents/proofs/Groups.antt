@@ -21,12 +21,12 @@ use Rattle.format.proofs.Forests.{width-append}
 use Rattle.laws.proofs.Holds.{of-done}
 use Rattle.laws.proofs.Schemas.{groupKind}
 use Rattle.laws.proofs.Bounds.{Bounded, byte-law, kindBy-bounded, schema-bounded}
-use Rattle.contents.specs.Least.{inColumns, Fits}
+use Rattle.columns.specs.Least.{inColumns, Fits}
 use Rattle.contents.specs.Items.{itemOf, Keyed}
-use Rattle.contents.specs.Walks.{Walks}
-use Rattle.contents.specs.declared.columns.Walk.{Walk}
-use Rattle.contents.proofs.LeafByLeaf.{columns-most}
-use Rattle.contents.proofs.Inverse.{never, done-pair, bind-done, then-done, Both}
+use Rattle.columns.specs.Walks.{Walks}
+use Rattle.columns.specs.declared.Walk.{Walk}
+use Rattle.columns.proofs.LeafByLeaf.{columns-most}
+use Rattle.columns.proofs.Inverse.{never, done-pair, bind-done, then-done, Both}
 use Rattle.contents.proofs.Members.{alike, KeyRead, keyed-plain, keyed-read, Sums, run, Rest, rest-turn, rest-there, rest-on, rest-closed, rest-next}
 
 -- ---- where a member's kind begins

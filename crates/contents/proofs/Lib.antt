@@ -1,9 +1,4 @@
 pub mod Elements
-pub mod Tiles
-pub mod LeafByLeaf
-pub mod Down
-pub mod Inverse
-pub mod Leaves
 pub mod Members
 pub mod Groups
 pub mod Verdicts

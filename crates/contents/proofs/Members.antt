@@ -22,10 +22,10 @@ use Rattle.format.proofs.Forests.{append-none, width-append}
 use Rattle.laws.proofs.Holds.{of-done}
 use Rattle.laws.proofs.Loops.{until-step}
 use Rattle.laws.proofs.Bounds.{Bounded, byte-law, oneOf-law, payloadEnd-law, key-bounded, seq-bounded, eased}
-use Rattle.contents.specs.Least.{inColumns, inFields}
+use Rattle.columns.specs.Least.{inColumns, inFields}
 use Rattle.contents.specs.Items.{itemOf, Unkeyed, bare, named, Keyed}
-use Rattle.contents.proofs.LeafByLeaf.{columns-most, fields-most, columns-append, fields-append}
-use Rattle.contents.proofs.Inverse.{done-pair, bind-done, then-done, Both, seq-done}
+use Rattle.columns.proofs.LeafByLeaf.{columns-most, fields-most, columns-append, fields-append}
+use Rattle.columns.proofs.Inverse.{done-pair, bind-done, then-done, Both, seq-done}
 
 -- ---- sums and leasts over forests
 

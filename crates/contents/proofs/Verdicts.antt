@@ -22,12 +22,12 @@ use Rattle.format.proofs.Forests.{width-append}
 use Rattle.laws.proofs.Holds.{Holds, refused, holds, bind-law, then-law, if-law, other, any-law, of-done}
 use Rattle.laws.proofs.Schemas.{group-one, tableSchema-gives}
 use Rattle.laws.proofs.Slots.{members-measured, below-measured, records-tile, length-count}
-use Rattle.contents.specs.Least.{nowhere, farthest, least, inColumns, inFields}
-use Rattle.contents.specs.Walks.{Walks}
+use Rattle.columns.specs.Least.{nowhere, farthest, least, inColumns, inFields}
+use Rattle.columns.specs.Walks.{Walks}
 use Rattle.contents.specs.Tables.{TableAt, FieldFits, FieldOver, FieldWalks}
-use Rattle.contents.specs.declared.columns.Walk.{Walk}
-use Rattle.contents.proofs.Tiles.{verdict, contents-least}
-use Rattle.contents.proofs.LeafByLeaf.{columns-most, fields-most, least-rows, least-by-columns}
+use Rattle.columns.specs.declared.Walk.{Walk}
+use Rattle.columns.proofs.Tiles.{verdict, contents-least}
+use Rattle.columns.proofs.LeafByLeaf.{columns-most, fields-most, least-rows, least-by-columns}
 use Rattle.contents.proofs.Members.{alike}
 use Rattle.contents.proofs.Groups.{kindOf, Opened, opened, not-nested, group-wide, group-columns, group-below, rest-start, RestOf, Afters, turn, turn-keyed, Turned}
 

@@ -8,8 +8,8 @@ use Rattle.format.specs.Limits.{limit, recordLimit}
 use Rattle.format.specs.Tokens.{Forest}
 use Rattle.format.specs.Records.{totalWidth}
 use Rattle.format.specs.Schemas.{tableSchema, kindBy, nested}
-use Rattle.contents.specs.Least.{inFields}
-use Rattle.contents.specs.declared.columns.Walk.{Walk}
+use Rattle.columns.specs.Least.{inFields}
+use Rattle.columns.specs.declared.Walk.{Walk}
 
 -- the schema s, read where it begins with so many rows lent; so many records of so many bytes from `start` on
 pub record TableAt (m : List ℕ) (schema wide count start lent row next : ℕ) (s : Forest) : Type 0 where

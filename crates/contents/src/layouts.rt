@@ -1,9 +1,9 @@
 // The two layouts of a table's payload, by rows and by columns.
-use crate::columns::FARTHEST;
-use crate::columns::Walk;
 use crate::walk::after_key;
 use crate::walk::group;
 use crate::walk::kind;
+use columns::FARTHEST;
+use columns::Walk;
 use format::limits::LIMIT;
 use format::limits::RECORD_LIMIT;
 use format::limits::SCHEMA_LEVELS;
@@ -15,8 +15,8 @@ ghost use Rattle.format.specs.Marks.{openingOf};
 ghost use Rattle.format.specs.Tokens.{Forest, belowFirst};
 ghost use Rattle.format.specs.Indexes.{below};
 ghost use Rattle.format.specs.Storage.{records};
-ghost use Rattle.contents.specs.Least.{nowhere, farthest, least, inColumns, inFields};
-ghost use Rattle.contents.specs.Walks.{Sound, Ends};
+ghost use Rattle.columns.specs.Least.{nowhere, farthest, least, inColumns, inFields};
+ghost use Rattle.columns.specs.Walks.{Sound, Ends};
 ghost use Rattle.contents.specs.Tables.{TableAt, FieldWalks};
 
 // The levels that are left for a field's kind.

@@ -1,6 +1,6 @@
 // The walk over a schema's bytes: each leaf's column is looked at once.
-use crate::columns::Walk;
-use crate::columns::leaf;
+use columns::Walk;
+use columns::leaf;
 use format::limits::LIMIT;
 use format::marks::ARRAY;
 use format::marks::Mark;
@@ -19,7 +19,7 @@ ghost use Rattle.format.specs.Tokens.{Forest};
 ghost use Rattle.format.specs.Sequences.{Reader};
 ghost use Rattle.format.specs.Schemas.{kindBy, nested};
 ghost use Rattle.contents.specs.Items.{itemOf, Keyed};
-ghost use Rattle.contents.specs.Walks.{Sound, Ends, Walks};
+ghost use Rattle.columns.specs.Walks.{Sound, Ends, Walks};
 
 // Where a member's kind begins: after its key, in a schema.
 pub fn after_key(message: &[u8], brace: bool, at: usize) -> usize

@@ -1,6 +1,6 @@
 // Where a short text or a short key ends, and a member's value in an object; 0 where a few bytes don't tell, which is left to the reader.
 use crate::scalars::scalar_value_end;
-use content::content::are_chars;
+use content::are_chars;
 use format::marks::TEXT;
 use format::marks::UINT8;
 ghost use mathlib.Core.Path.{_≡_};

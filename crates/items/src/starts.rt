@@ -1,4 +1,5 @@
 // Values and members as far as they hold no others: what opens a container is left to the caller.
+use extensions::extension;
 use format::answers::Edition;
 use format::answers::Kind;
 use format::marks::ARRAY;
@@ -9,7 +10,6 @@ use format::marks::OBJECT;
 use format::marks::TEXT;
 use scan::noops::skip;
 use tokens::Step;
-use tokens::extensions::extension;
 use tokens::scalars::key;
 use tokens::scalars::scalar;
 use tokens::scalars::text;

@@ -19,11 +19,11 @@ use Rattle.format.specs.Panel.{tables, pick, panelSlot}
 use Rattle.laws.proofs.Holds.{of-done}
 use Rattle.laws.proofs.Bounds.{schema-bounded}
 use Rattle.contents.proofs.Groups.{opened-there}
-use Rattle.records.specs.Search.{spotOf, inFields}
+use Rattle.leaf_search.specs.Search.{spotOf, inFields}
 use Rattle.records.specs.Fields.{FieldsOver, FieldsRead}
 use Rattle.records.specs.Counts.{CountOver, CountRead}
 use Rattle.records.specs.Slots.{tableOf, slotOf, leafPlace}
-use Rattle.records.specs.declared.leaves.Seen.the-variants.{Left, Found}
+use Rattle.leaf_search.specs.declared.leaves.Seen.the-variants.{Left, Found}
 use Rattle.records.specs.declared.fields.Fields.{Fields}
 use Rattle.records.specs.declared.counts.Count.{Count}
 use Rattle.records.proofs.FieldTurns.{fields-opened}

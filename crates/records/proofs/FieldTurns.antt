@@ -18,12 +18,12 @@ use Rattle.contents.specs.Items.{Unkeyed, bare, named}
 use Rattle.contents.proofs.Members.{alike}
 use Rattle.contents.proofs.Groups.{kindOf, Opened, Afters, opened, group-wide, group-below}
 use Rattle.contents.proofs.Verdicts.{kind-single}
-use Rattle.records.specs.Search.{past, latest, Spot, spotOf, inFields}
-use Rattle.records.specs.Walks.{Walks}
-use Rattle.records.specs.declared.leaves.Seen.{Seen}
-use Rattle.records.specs.declared.leaves.Seen.the-variants.{Left, Found}
-use Rattle.records.specs.declared.leaves.Walk.{Walk}
-use Rattle.records.proofs.Turns.{Rest, rest-start, turn, forward, turn-keyed, turn-whole, turn-closed, turn-next}
+use Rattle.leaf_search.specs.Search.{past, latest, Spot, spotOf, inFields}
+use Rattle.leaf_search.specs.Walks.{Walks}
+use Rattle.leaf_search.specs.declared.leaves.Seen.{Seen}
+use Rattle.leaf_search.specs.declared.leaves.Seen.the-variants.{Left, Found}
+use Rattle.leaf_search.specs.declared.leaves.Walk.{Walk}
+use Rattle.leaf_search.proofs.Turns.{Rest, rest-start, turn, forward, turn-keyed, turn-whole, turn-closed, turn-next}
 
 -- ---- the latest number
 

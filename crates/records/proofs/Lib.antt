@@ -1,6 +1,3 @@
-pub mod Search
-pub mod Turns
-pub mod LeafWalks
 pub mod FieldTurns
 pub mod Moves
 pub mod Picked

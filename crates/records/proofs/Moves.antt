@@ -19,7 +19,7 @@ use Rattle.format.proofs.Forests.{size-append}
 use Rattle.laws.proofs.Holds.{of-done}
 use Rattle.laws.proofs.Order.{order-size}
 use Rattle.laws.proofs.Bounds.{shape-bounded}
-use Rattle.contents.proofs.Inverse.{done-pair, bind-done, then-done, seq-done}
+use Rattle.columns.proofs.Inverse.{done-pair, bind-done, then-done, seq-done}
 
 -- ---- what follows a part that is the same
 

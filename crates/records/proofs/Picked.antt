@@ -14,9 +14,9 @@ use Rattle.format.specs.Panel.{pick}
 use Rattle.storage.specs.Places.{Field, own, next}
 use Rattle.storage.proofs.Offsets.{Placed}
 use Rattle.storage.proofs.Leaves.{of-leaves, alone, rest, holds-leaf}
-use Rattle.records.specs.Search.{passed, latest, past, Spot, inFields}
-use Rattle.records.specs.declared.leaves.Seen.{Seen}
-use Rattle.records.specs.declared.leaves.Seen.the-variants.{Left, Found}
+use Rattle.leaf_search.specs.Search.{passed, latest, past, Spot, inFields}
+use Rattle.leaf_search.specs.declared.leaves.Seen.{Seen}
+use Rattle.leaf_search.specs.declared.leaves.Seen.the-variants.{Left, Found}
 
 -- ---- offsets change nothing
 

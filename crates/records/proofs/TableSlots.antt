@@ -25,14 +25,14 @@ use Rattle.laws.proofs.Holds.{of-done, guard-law}
 use Rattle.laws.proofs.Order.{OfSchema, group-kind}
 use Rattle.laws.proofs.Schemas.{Group, grouped, tableSchema-gives}
 use Rattle.laws.proofs.Slots.{member-width}
-use Rattle.contents.proofs.Inverse.{never, done-pair, bind-done, then-done}
+use Rattle.columns.proofs.Inverse.{never, done-pair, bind-done, then-done}
 use Rattle.storage.proofs.Offsets.{Placed, member-placed, width-placed, offsets-placed}
 use Rattle.storage.proofs.Leaves.{field-from}
 use Rattle.storage.proofs.Cuts.{formulaOf}
 use Rattle.panel_laws.proofs.Looked.{table-slots, slot-there, slot-over}
-use Rattle.records.specs.Search.{Spot, inFields}
+use Rattle.leaf_search.specs.Search.{Spot, inFields}
 use Rattle.records.specs.Slots.{tableOf, slotOf, leafPlace}
-use Rattle.records.specs.declared.leaves.Seen.the-variants.{Left}
+use Rattle.leaf_search.specs.declared.leaves.Seen.the-variants.{Left}
 use Rattle.records.proofs.Picked.{fields-placed, Picked, there, missing, picked}
 
 -- ---- what was read

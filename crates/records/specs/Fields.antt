@@ -8,9 +8,9 @@ use Rattle.format.specs.Limits.{recordLimit}
 use Rattle.format.specs.Tokens.{Forest, belowFirst}
 use Rattle.format.specs.Records.{totalWidth}
 use Rattle.format.specs.Schemas.{tableSchema}
-use Rattle.records.specs.Search.{spotOf, inFields}
-use Rattle.records.specs.Walks.{Near}
-use Rattle.records.specs.declared.leaves.Seen.the-variants.{Left}
+use Rattle.leaf_search.specs.Search.{spotOf, inFields}
+use Rattle.leaf_search.specs.Walks.{Near}
+use Rattle.leaf_search.specs.declared.leaves.Seen.the-variants.{Left}
 use Rattle.records.specs.declared.fields.Fields.{Fields}
 
 -- the byte after it, a record's width, and the leaf in its field

@@ -1,5 +1,3 @@
-pub mod Search
-pub mod Walks
 pub mod Fields
 pub mod Counts
 pub mod Slots

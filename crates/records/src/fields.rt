@@ -1,10 +1,10 @@
 // The top-level fields of a table's schema, and the leaf that is looked for in one of them.
-use crate::kinds::kind;
-use crate::leaves::Seen;
-use crate::leaves::newer;
 use contents::walk::after_key;
 use format::limits::SCHEMA_LEVELS;
 use format::marks::OBJECT_END;
+use leaf_search::kinds::kind;
+use leaf_search::leaves::Seen;
+use leaf_search::leaves::newer;
 use scan::bytes::stands;
 ghost use mathlib.Core.List.{List};
 ghost use Prim.Native.Nat.{ℕ};

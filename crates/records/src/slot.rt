@@ -1,9 +1,9 @@
 // The slot of a leaf and a record of a table.
 use crate::counts::count_at;
 use crate::fields::fields_at;
-use crate::leaves::Seen;
 use format::answers::Located;
 use format::limits::LIMIT;
+use leaf_search::leaves::Seen;
 ghost use mathlib.Core.Path.{_≡_};
 ghost use Prim.Native.Nat.{ℕ, _^_, _≤_, _<_};
 ghost use lib.ListN.{length};

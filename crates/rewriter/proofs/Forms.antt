@@ -25,7 +25,7 @@ use Rattle.storage.proofs.Offsets.{member-placed, width-placed, is-placed, memb
 use Rattle.meaning.proofs.Accepted.{Sort, Number, Accepted, stop, more, both, apart, aScalar, aText, aNumber, anExtension, aKey, aContainer, aDimension, aPacked, aLeaf, aTextLeaf, aKind, aGroup, aTable as aTableRead}
 use Rattle.pieces.specs.Shapes.{shapeStart, shapeEnd}
 use Rattle.writer.specs.Pieces.{isSingle, isList, payloadAt, single, head, middle, tail}
-use Rattle.rewriter.specs.Formed.{Single, Around, Tabular, Formed, noToken, aSingle, aNested, aTable}
+use Rattle.forests.specs.Formed.{Single, Around, Tabular, Formed, noToken, aSingle, aNested, aTable}
 
 -- ---- marks
 

@@ -1,5 +1,2 @@
-pub mod Steps
-pub mod Going
-pub mod Lengths
 pub mod Forms
 pub mod Rewrites

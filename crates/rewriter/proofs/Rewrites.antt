@@ -21,8 +21,8 @@ use Rattle.storage.specs.Places.{Filled}
 use Rattle.storage.proofs.Places.{read-fills, filled-rows, filled-enough}
 use Rattle.meaning.proofs.Accepting.{read-finds}
 use Rattle.pieces.specs.Puts.{Puts}
-use Rattle.rewriter.specs.Held.{Held, Room}
-use Rattle.rewriter.specs.Settled.{fitsIn, Settled, fitting, tooLong}
+use Rattle.forests.specs.Held.{Held, Room}
+use Rattle.forests.specs.Settled.{fitsIn, Settled, fitting, tooLong}
 use Rattle.rows.specs.Clearing.{clearedFrom}
 use Rattle.rewriter.proofs.Forms.{accepted-formed}
 

@@ -1,3 +1,2 @@
 // The rewriter: a message to its house form.
 pub mod message;
-pub mod walk;

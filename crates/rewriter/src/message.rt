@@ -1,42 +1,16 @@
 // A whole message, rewritten.
-use crate::walk::put_tokens;
+use forests::settled::settle;
+use forests::walk::put_tokens;
 use format::answers::Answer;
 use format::answers::Edition;
-use format::limits::LIMIT;
 use reader::message::read;
-use rows::clear;
 use rows::clear_bytes;
-use rows::clear_bytes_from;
 ghost use mathlib.Core.Path.{_≡_};
 ghost use lib.ListN.{length};
 ghost use Rattle.format.specs.Rows.{rowsIn};
 ghost use Rattle.format.specs.Read.{readInto};
 ghost use Rattle.format.specs.HouseForm.{rewrite as rewriteOf, bytesWritten, outputAfter, rewriteWordsAfter};
 ghost use Rattle.format.specs.Answers.{answered, grammarOf};
-ghost use Rattle.rewriter.specs.Settled.{fitsIn, Settled};
-
-// Whether so many bytes fit the room, and the limit.
-fn fits(n: usize, room: usize) -> bool
-    ensures { λ r. ⌜ r ≡ fitsIn room n ⌝ }
-{
-    if room < n {
-        return false;
-    }
-    n <= LIMIT as usize
-}
-
-// The answer once so many bytes were put: these, and zeros after them; or 11, with rows and output cleared.
-fn settle(rows: &mut [u32], output: &mut [u8], end: usize) -> Answer
-    ensures { λ r. ⌜ Settled end (now (rows .entry)) (now (output .entry)) (answered r) (now (rows .exit)) (now (output .exit)) ⌝ }
-{
-    if fits(end, output.len()) {
-        clear_bytes_from(output, end);
-        return Answer::Done(end);
-    }
-    clear(rows);
-    clear_bytes_from(output, 0);
-    Answer::Refused(11, 0)
-}
 
 // Writes a message in house form: the bytes written, or a refusal's number and place. The rows then hold the message's rows. What
 // isn't filled of rows and output is zero, on refusal all.

@@ -1,4 +1,1 @@
-pub mod Placing
-pub mod Sofar
-pub mod Cases
 pub mod Loop

@@ -25,12 +25,12 @@ use Rattle.scan.proofs.Stands.{stands-there, stands-other}
 use Rattle.laws.proofs.Bounds.{byte-starts}
 use Rattle.tokens.specs.Answers.{onto, Here}
 use Rattle.tokens.proofs.Sofar.{seq-fault}
-use Rattle.schemas.specs.Answers.{over, groupAt, arrayAt, recordAt, Read, Meets, Sofar, StartMeets, Ends, Within, StartWithin}
-use Rattle.schemas.specs.declared.Kinds.{Kinds}
-use Rattle.schemas.specs.declared.starts.Start.{Start}
-use Rattle.schemas.specs.declared.starts.Start.the-variants.{Ended, Array, Record}
-use Rattle.schemas.proofs.Placing.{group-size, group-members, group-width, group-lies}
-use Rattle.schemas.proofs.Sofar.{sofar-start, sofar-as, sofar-step, sofar-fault, sofar-meets, within-from}
+use Rattle.kinds.specs.Answers.{over, groupAt, arrayAt, recordAt, Read, Meets, Sofar, StartMeets, Ends, Within, StartWithin}
+use Rattle.kinds.specs.declared.Kinds.{Kinds}
+use Rattle.kinds.specs.declared.starts.Start.{Start}
+use Rattle.kinds.specs.declared.starts.Start.the-variants.{Ended, Array, Record}
+use Rattle.kinds.proofs.Placing.{group-size, group-members, group-width, group-lies}
+use Rattle.kinds.proofs.Sofar.{sofar-start, sofar-as, sofar-step, sofar-fault, sofar-meets, within-from}
 
 -- ---- up to a closing mark
 

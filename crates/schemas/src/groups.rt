@@ -1,14 +1,14 @@
 // The records and fixed arrays of a schema, which hold each other: members one after another are a loop, nesting is a call.
-use crate::Kinds;
-use crate::starts::Start;
-use crate::starts::field_start;
-use crate::starts::kind_start;
 use format::answers::Kind;
 use format::limits::SCHEMA_LEVELS;
 use format::marks::ARRAY;
 use format::marks::ARRAY_END;
 use format::marks::OBJECT;
 use format::marks::OBJECT_END;
+use kinds::Kinds;
+use kinds::starts::Start;
+use kinds::starts::field_start;
+use kinds::starts::kind_start;
 use scan::bytes::stands;
 use tokens::entry::Entry;
 use tokens::entry::put;
@@ -21,7 +21,7 @@ ghost use Rattle.format.specs.Rows.{rowOf};
 ghost use Rattle.format.specs.Schemas.{tableSchema};
 ghost use Rattle.rows.specs.Row.{store as storeIn};
 ghost use Rattle.tokens.specs.Answers.{Here};
-ghost use Rattle.schemas.specs.Answers.{over, groupAt, arrayAt, recordAt, Meets, Within};
+ghost use Rattle.kinds.specs.Answers.{over, groupAt, arrayAt, recordAt, Meets, Within};
 
 // Stores the row of a record or a fixed array, once its members are read: it is as wide as they are together.
 fn put_group(

@@ -7,7 +7,7 @@ use Rattle.format.specs.Refusals.{rowsDontFit}
 use Rattle.format.specs.Grammars.{Grammar}
 use Rattle.format.specs.Read.{readInto}
 use Rattle.format.specs.HouseForm.{rewrite}
-use Rattle.tanklefrost.specs.Editions.{grammarNumbered, readNumbered, rewriteNumbered}
+use Rattle.structs.specs.Editions.{grammarNumbered, readNumbered, rewriteNumbered}
 
 -- a number that names an edition
 module _ (n : ℕ) (g : Grammar) (e : done g ≡ grammarNumbered n) where

@@ -1,10 +1,10 @@
 // The calls over a message: the panel's, with the message only, reading to rows, and rewriting.
-use crate::answers::Reading;
-use crate::answers::reading_of;
-use crate::editions::Named;
-use crate::editions::edition_of;
 use rows::clear;
 use rows::clear_bytes;
+use structs::answers::Reading;
+use structs::answers::reading_of;
+use structs::editions::Named;
+use structs::editions::edition_of;
 ghost use mathlib.Core.Path.{_≡_};
 ghost use lib.ListN.{length};
 ghost use Rattle.format.specs.Rows.{rowsIn};
@@ -13,8 +13,8 @@ ghost use Rattle.format.specs.HouseForm.{bytesWritten, outputAfter, rewriteWord
 ghost use Rattle.format.specs.Panel.{numberAndPlace, rowsNeeded, panelSlot};
 ghost use Rattle.format.specs.Answers.{firstAndWidth};
 ghost use Rattle.panel.specs.Layout.{partsOf, numberAndPlaceParts, rowsParts, slotParts};
-ghost use Rattle.tanklefrost.specs.Answers.{readingFor};
-ghost use Rattle.tanklefrost.specs.Editions.{readNumbered, rewriteNumbered};
+ghost use Rattle.structs.specs.Answers.{readingFor};
+ghost use Rattle.structs.specs.Editions.{readNumbered, rewriteNumbered};
 
 // The answer where the number names no edition.
 const NO_EDITION: Reading = Reading {

@@ -1,17 +1,17 @@
 // The calls over rows, which may come from anywhere: slots, values, texts and lookup. They change nothing.
-use crate::answers::Member;
-use crate::answers::Place;
-use crate::answers::Scalar;
-use crate::answers::member_of;
-use crate::answers::place_of;
-use crate::answers::scalar_of;
+use structs::answers::Member;
+use structs::answers::Place;
+use structs::answers::Scalar;
+use structs::answers::member_of;
+use structs::answers::place_of;
+use structs::answers::scalar_of;
 ghost use mathlib.Core.Path.{_≡_};
 ghost use Rattle.format.specs.Addresses.{packedSlot, tableSlot};
 ghost use Rattle.format.specs.Values.{valueAtRow, valueInPacked, valueInTable};
 ghost use Rattle.format.specs.TextAnswers.{textAtRow, textInTable};
 ghost use Rattle.format.specs.Lookup.{lookup as lookupIn};
 ghost use Rattle.format.specs.Answers.{firstAndWidth};
-ghost use Rattle.tanklefrost.specs.Answers.{placeFor, memberFor, scalarFor};
+ghost use Rattle.structs.specs.Answers.{placeFor, memberFor, scalarFor};
 
 // The slot of a packed row and indexes. `size` is the message's length.
 #[no_mangle]

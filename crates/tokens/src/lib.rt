@@ -1,7 +1,6 @@
 // Tokens that hold no others: scalars, texts, high-precision numbers, keys and extensions. A row is stored as far as the lent words reach;
 // refusal 8 goes by the number of rows lent, so a table of any length serves, and an empty one where only the answer is wanted.
 pub mod entry;
-pub mod extensions;
 pub mod scalars;
 
 // A refusal's number and place; or the place after what was read, and the row after its rows.

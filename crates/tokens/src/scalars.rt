@@ -2,7 +2,7 @@
 use crate::Step;
 use crate::entry::Entry;
 use crate::entry::put;
-use content::content::is_content;
+use content::is_content;
 use format::answers::Kind;
 use format::limits::LIMIT;
 use format::marks::Mark;

@@ -13,7 +13,7 @@ use Rattle.format.specs.Schemas.{tableSchema}
 use Rattle.format.proofs.Forests.{size-append}
 use Rattle.laws.proofs.Order.{size-placed}
 use Rattle.tokens.proofs.Sofar.{lay-forest}
-use Rattle.schemas.specs.Answers.{over, Read}
+use Rattle.kinds.specs.Answers.{over, Read}
 use Rattle.shapes.specs.Answers.{Told}
 use Rattle.typed.specs.Tables.{HeaderRead}
 

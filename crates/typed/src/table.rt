@@ -6,7 +6,7 @@ use format::limits::LIMIT;
 use format::limits::RECORD_LIMIT;
 use format::marks::COUNT;
 use format::marks::opening_mark;
-use schemas::Kinds;
+use kinds::Kinds;
 use schemas::groups::table_schema;
 use shapes::counts::Shaped;
 use shapes::counts::shape;

@@ -2,7 +2,7 @@
 use crate::floats::double;
 use crate::floats::single;
 use crate::half::single_bits;
-use content::content::is_content;
+use content::is_content;
 use format::answers::Kind;
 use format::answers::Token;
 use format::answers::Value;

@@ -1,7 +1,7 @@
 -- `start`: capped sums and a capped product. Assumes nothing.
 use mathlib.Core.Path.{_∙_}
 use borrow.Author.Needs.{needs}
-use Rattle.addresses.proofs.Capped.{capped-place}
+use Rattle.indexes.proofs.Capped.{capped-place}
 use Rattle.addresses.proofs.slots.start.Statement.{statement}
 use Rattle.addresses.proofs.slots.start.Tie as tie
 

@@ -9,7 +9,7 @@ use Rattle.format.specs.Marks.{brace, closes}
 use Rattle.format.specs.Tokens.{Forest, belowFirst}
 use Rattle.format.specs.Records.{totalWidth}
 use Rattle.scan.proofs.Stands.{stands-there, stands-other}
-use Rattle.contents.specs.Least.{farthest, nowhere, inFields}
+use Rattle.columns.specs.Least.{farthest, nowhere, inFields}
 use Rattle.contents.specs.Tables.{TableAt}
 use Rattle.contents.proofs.Members.{fields-sum}
 use Rattle.contents.proofs.Groups.{RestOf, opened-there, inside, turn-on, turn-closed, turn-next}

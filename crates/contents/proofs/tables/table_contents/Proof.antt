@@ -2,7 +2,7 @@
 use mathlib.Core.Path.{sym, _∙_, ap}
 use native.Mathlib.Omega.{arith}
 use borrow.Author.Needs.{needs}
-use Rattle.contents.proofs.Tiles.{verdict}
+use Rattle.columns.proofs.Tiles.{verdict}
 use Rattle.contents.proofs.Verdicts.{table-verdict, verdict-wrong, verdict-right}
 use Rattle.contents.proofs.tables.table_contents.Statement.{statement}
 use Rattle.contents.proofs.tables.table_contents.Tie as tie

@@ -10,8 +10,8 @@ use Rattle.format.specs.Tokens.{Forest}
 use Rattle.format.specs.Records.{totalWidth}
 use Rattle.format.specs.Schemas.{nested}
 use Rattle.scan.proofs.Stands.{stands-there, stands-other}
-use Rattle.contents.specs.Least.{farthest, inColumns, Fits}
-use Rattle.contents.proofs.Leaves.{kind-bracket, kind-brace}
+use Rattle.columns.specs.Least.{farthest, inColumns, Fits}
+use Rattle.columns.proofs.Leaves.{kind-bracket, kind-brace}
 use Rattle.contents.proofs.Members.{columns-sum}
 use Rattle.contents.proofs.Groups.{kind-there, RestOf, opened, not-nested, opened-there, group-start, inside, group-turned, turn-on, turn-closed, turn-next}
 use borrow.Fn.Kinds.{In}
@@ -23,7 +23,7 @@ use Rattle.contents.proofs.walk.kind.Reads as kind
 use Rattle.contents.proofs.walk.kind.Kinds as kind-kinds
 use Rattle.contents.proofs.walk.+group+kind.Lts-kind as kind-lts
 use Rattle.scan.proofs.bytes.byte_at.Reads as byte-at-reads
-use Rattle.contents.proofs.columns.leaf.Reads as leaf-reads
+use Rattle.columns.proofs.leaf.Reads as leaf-reads
 use Rattle.contents.proofs.walk.after_key.Reads as after-key-reads
 use Rattle.scan.proofs.bytes.stands.Reads as stands-reads
 use Rattle.format.proofs.marks.closing_mark.Reads as closing-mark-reads

@@ -4,7 +4,7 @@ use native.Mathlib.Omega.{arith}
 use borrow.Author.Needs.{needs}
 use borrow.Author.Tests.{not-true, not-false}
 use Rattle.scan.specs.Numbers.{parsed}
-use Rattle.contents.proofs.Inverse.{never, done-pair}
+use Rattle.columns.proofs.Inverse.{never, done-pair}
 use Rattle.contents.proofs.Groups.{after-none, after-read}
 use Rattle.contents.proofs.walk.after_key.Statement.{statement}
 use Rattle.contents.proofs.walk.after_key.Tie as tie

@@ -10,7 +10,7 @@ use Rattle.format.specs.Outcome.{fault, done}
 use Rattle.format.specs.Limits.{limit}
 use Rattle.format.specs.Dimensions.{Shape, shape}
 use Rattle.shapes.specs.Answers.{Told}
-use Rattle.contents.proofs.Inverse.{never, done-pair}
+use Rattle.columns.proofs.Inverse.{never, done-pair}
 use Rattle.records.specs.Counts.{CountOver}
 use Rattle.records.proofs.Moves.{shape-moves, shape-few}
 use Rattle.records.proofs.counts.count_at.Statement.{statement}

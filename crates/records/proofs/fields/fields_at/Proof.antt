@@ -13,10 +13,10 @@ use Rattle.format.specs.Records.{totalWidth}
 use Rattle.format.specs.Schemas.{tableSchema}
 use Rattle.scan.proofs.Stands.{stands-there, stands-other}
 use Rattle.contents.proofs.Groups.{opened-there}
-use Rattle.records.specs.Search.{inFields}
-use Rattle.records.specs.Walks.{Begins}
-use Rattle.records.specs.declared.leaves.Seen.the-variants.{Left}
-use Rattle.records.proofs.Turns.{Rest, inside}
+use Rattle.leaf_search.specs.Search.{inFields}
+use Rattle.leaf_search.specs.Walks.{Begins}
+use Rattle.leaf_search.specs.declared.leaves.Seen.the-variants.{Left}
+use Rattle.leaf_search.proofs.Turns.{Rest, inside}
 use Rattle.records.proofs.FieldTurns.{latest-within, span-within, Leads, fields-opened, fields-start, fields-on, fields-closed, fields-next}
 use Rattle.records.proofs.fields.fields_at.Statement.{statement}
 use Rattle.records.proofs.fields.fields_at.Tie as tie

@@ -10,8 +10,8 @@ use lib.ListN.{length}
 use Rattle.format.specs.Marks.{bracket, brace, opens, closes}
 use Rattle.format.specs.Tokens.{isKind, schemaRecord, fixedArray}
 use Rattle.scan.proofs.Stands.{stands-there}
-use Rattle.schemas.specs.Answers.{kindAt, fieldAt, Ends}
-use Rattle.schemas.proofs.Cases.{kind-early, field-early}
+use Rattle.kinds.specs.Answers.{kindAt, fieldAt, Ends}
+use Rattle.kinds.proofs.Cases.{kind-early, field-early}
 use Rattle.schemas.proofs.Loop.{Before, After, loop-start, loop-fault, loop-read, loop-on, loop-end, Member, member-ended, member-array, member-record}
 use Rattle.schemas.proofs.groups.array_kinds.Reads as array-kinds
 use Rattle.schemas.proofs.groups.array_kinds.Kinds as array-kinds-kinds
@@ -21,8 +21,8 @@ use Rattle.schemas.proofs.groups.record_kinds.Kinds as record-kinds-kin
 use Rattle.schemas.proofs.groups.+array_kinds+record_kinds.Lts-record_kinds as record-kinds-lts
 use Rattle.schemas.proofs.groups.put_group.Reads as put-group-reads
 use Rattle.scan.proofs.bytes.stands.Reads as stands-reads
-use Rattle.schemas.proofs.starts.field_start.Reads as field-start-reads
-use Rattle.schemas.proofs.starts.kind_start.Reads as kind-start-reads
+use Rattle.kinds.proofs.starts.field_start.Reads as field-start-reads
+use Rattle.kinds.proofs.starts.kind_start.Reads as kind-start-reads
 use Rattle.schemas.proofs.groups.+array_kinds+record_kinds.{statement}
 use Rattle.schemas.proofs.groups.+array_kinds+record_kinds.Tie.{close}
 

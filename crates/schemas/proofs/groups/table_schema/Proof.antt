@@ -1,7 +1,7 @@
 -- `table_schema`: a row must be left, then the record, with one level taken. Assumes nothing.
 use native.Mathlib.Omega.{arith}
 use borrow.Author.Needs.{needs}
-use Rattle.schemas.proofs.Cases.{table-no-row, table-opens}
+use Rattle.kinds.proofs.Cases.{table-no-row, table-opens}
 use Rattle.schemas.proofs.groups.table_schema.Statement.{statement}
 use Rattle.schemas.proofs.groups.table_schema.Tie as tie
 

@@ -3,7 +3,7 @@ use mathlib.Core.Path.{refl, ap, _∙_}
 use borrow.Author.Needs.{needs}
 use Rattle.format.specs.Outcome.{numberOf, placeOf, orZero}
 use Rattle.format.specs.HouseForm.{bytesWritten, outputAfter, rewriteWordsAfter}
-use Rattle.tanklefrost.specs.Answers.{readingFor}
+use Rattle.structs.specs.Answers.{readingFor}
 use Rattle.tanklefrost.proofs.Numbered.{read-by, rewrite-by, rewrite-by-none}
 use Rattle.tanklefrost.proofs.messages.tanklefrost_rewrite.Statement.{statement}
 use Rattle.tanklefrost.proofs.messages.tanklefrost_rewrite.Tie as tie

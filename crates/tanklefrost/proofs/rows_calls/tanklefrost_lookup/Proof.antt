@@ -1,7 +1,7 @@
 -- `tanklefrost_lookup`: as the call answers. Assumes nothing.
 use mathlib.Core.Path.{ap, _∙_}
 use borrow.Author.Needs.{needs}
-use Rattle.tanklefrost.specs.Answers.{memberFor}
+use Rattle.structs.specs.Answers.{memberFor}
 use Rattle.tanklefrost.proofs.rows_calls.tanklefrost_lookup.Statement.{statement}
 use Rattle.tanklefrost.proofs.rows_calls.tanklefrost_lookup.Tie as tie
 

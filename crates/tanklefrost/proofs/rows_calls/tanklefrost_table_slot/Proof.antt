@@ -1,7 +1,7 @@
 -- `tanklefrost_table_slot`: as the call answers. Assumes nothing.
 use mathlib.Core.Path.{ap, _∙_}
 use borrow.Author.Needs.{needs}
-use Rattle.tanklefrost.specs.Answers.{placeFor}
+use Rattle.structs.specs.Answers.{placeFor}
 use Rattle.tanklefrost.proofs.rows_calls.tanklefrost_table_slot.Statement.{statement}
 use Rattle.tanklefrost.proofs.rows_calls.tanklefrost_table_slot.Tie as tie
 

@@ -1,0 +1,3 @@
+pub mod LeafWalks
+pub mod Search
+pub mod Turns

@@ -1,0 +1,3 @@
+// The structs and the numbers of the C calls.
+pub mod answers;
+pub mod editions;
