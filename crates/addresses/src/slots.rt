@@ -2,7 +2,6 @@
 // every slice's is.
 use format::answers::Found;
 use format::limits::DIMENSION_LIMIT;
-use format::marks::ARRAY;
 use format::marks::Mark;
 use indexes::in_range;
 use indexes::number;
@@ -116,7 +115,7 @@ fn in_record(
     let t = load(rows, row);
     let o = load(rows, leaf);
     let payload = t.payload as usize;
-    if t.mark == ARRAY as u32 {
+    if t.mark == Mark::ARRAY as u32 {
         let record = load(rows, row + 1);
         let from = start(payload, number, record.extent as usize, o.payload);
         return inside(size, o.mark, from, 0, o.extent);

@@ -1,9 +1,6 @@
 // The values of one leaf of a table, record after record.
 use content::is_content;
-use format::marks::CHAR;
 use format::marks::Mark;
-use format::marks::TEXT;
-use format::marks::TRUE;
 use scan::integers::Parsed;
 use scan::integers::integer;
 ghost use mathlib.Core.Path.{_≡_};
@@ -79,9 +76,9 @@ fn is_checked(mark: u8) -> bool
     ensures { λ r. ⌜ (r ≡ false → (mark ≡ 'H' → ⊥) → (bs : List ℕ) → isContent mark bs ≡ true) ⌝ }
 {
     match mark {
-        TEXT => true,
-        CHAR => true,
-        TRUE => true,
+        Mark::TEXT => true,
+        Mark::CHAR => true,
+        Mark::TRUE => true,
         _ => false,
     }
 }
@@ -162,14 +159,14 @@ pub fn leaf(
         let wide = kind.leaf_width();
         return leaf_over(message, mark, wide, at + 1, stride, count, place, best);
     }
-    if mark != TEXT {
+    if mark != Mark::TEXT {
         return off;
     }
     match integer(message, at + 1) {
         Parsed::Refused(_, _) => off,
         Parsed::Number(n, next) => {
             let wide = n as usize;
-            leaf_over(message, TEXT, wide, next, stride, count, place, best)
+            leaf_over(message, Mark::TEXT, wide, next, stride, count, place, best)
         }
     }
 }

@@ -1,6 +1,6 @@
 // Answers, and whether two are the same.
 use format::answers::Answer;
-use format::marks::EXTENSION;
+use format::marks::Mark;
 
 // An answer as numbers: number, place and rows used.
 pub struct Numbers {
@@ -44,7 +44,7 @@ impl Compared {
 
 // Whether an answer refuses a byte of the message that is an `E`.
 pub fn is_extension_refused(message: &[u8], a: Numbers) -> bool {
-    a.number == 3 && byte(message, a.place) == EXTENSION
+    a.number == 3 && byte(message, a.place) == Mark::EXTENSION
 }
 
 // Whether two answers are the same.

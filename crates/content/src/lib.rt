@@ -4,11 +4,7 @@ pub mod text;
 
 use crate::json::is_number;
 use crate::text::is_text;
-use format::marks::CHAR;
-use format::marks::FALSE;
-use format::marks::HIGH_PRECISION;
-use format::marks::TEXT;
-use format::marks::TRUE;
+use format::marks::Mark;
 ghost use mathlib.Core.Path.{_≡_};
 ghost use lib.Dec.{leb};
 ghost use Rattle.format.specs.Conditions.{all};
@@ -31,10 +27,10 @@ pub fn are_chars(bytes: &[u8]) -> bool
 fn is_boolean(b: u8) -> bool
     ensures { λ r. ⌜ r ≡ isBoolean b ⌝ }
 {
-    if b == TRUE {
+    if b == Mark::TRUE {
         return true;
     }
-    b == FALSE
+    b == Mark::FALSE
 }
 
 // Whether every byte is a boolean, `T` or `F`.
@@ -56,10 +52,10 @@ pub fn is_content(mark: u8, bytes: &[u8]) -> bool
     ensures { λ r. ⌜ r ≡ isContent mark (now (bytes .entry)) ⌝ }
 {
     match mark {
-        TEXT => is_text(bytes),
-        HIGH_PRECISION => is_number(bytes),
-        CHAR => are_chars(bytes),
-        TRUE => are_booleans(bytes),
+        Mark::TEXT => is_text(bytes),
+        Mark::HIGH_PRECISION => is_number(bytes),
+        Mark::CHAR => are_chars(bytes),
+        Mark::TRUE => are_booleans(bytes),
         _ => true,
     }
 }

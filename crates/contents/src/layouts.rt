@@ -7,7 +7,7 @@ use columns::Walk;
 use format::limits::LIMIT;
 use format::limits::RECORD_LIMIT;
 use format::limits::SCHEMA_LEVELS;
-use format::marks::OBJECT_END;
+use format::marks::Mark;
 use scan::bytes::stands;
 ghost use mathlib.Core.Path.{_≡_};
 ghost use Prim.Native.Nat.{ℕ, _≤_};
@@ -77,7 +77,7 @@ fn by_columns(message: &[u8], schema: usize, count: usize, start: usize) -> usiz
         let next = walk.next;
         place = walk.place;
         low = walk.best;
-        if stands(message, next, OBJECT_END) {
+        if stands(message, next, Mark::OBJECT_END) {
             return low;
         }
         if next <= i {

@@ -1,6 +1,6 @@
 // The content of a packed array: chars are looked at, and every other type has any bytes.
 use crate::Checked;
-use format::marks::CHAR;
+use format::marks::Mark;
 ghost use mathlib.Core.Path.{_≡_};
 ghost use mathlib.Core.Bool.{true};
 ghost use Prim.Native.Nat.{ℕ, _+_, _*_, _≤_};
@@ -16,7 +16,7 @@ pub fn packed_contents(message: &[u8], mark: u8, start: usize, n: usize) -> Chec
     requires { ⌜ (isType mark ≡ true) × (start + n * width mark ≤ length (now message)) ⌝ }
     ensures { λ r. ⌜ ((row : ℕ) → checkedOf r ≡ contents (now (message .entry)) start (elements row mark (below n))) ⌝ }
 {
-    if mark != CHAR {
+    if mark != Mark::CHAR {
         return Checked::Right;
     }
     let mut i = 0;

@@ -2,9 +2,7 @@
 use columns::Walk;
 use columns::leaf;
 use format::limits::LIMIT;
-use format::marks::ARRAY;
 use format::marks::Mark;
-use format::marks::OBJECT;
 use format::marks::closing_mark;
 use scan::bytes::byte_at;
 use scan::bytes::stands;
@@ -60,10 +58,10 @@ pub fn kind(
     ensures bounds { λ r. ⌜ Ends best r ⌝ }
 {
     let mark = byte_at(message, at);
-    if mark == ARRAY {
+    if mark == Mark::ARRAY {
         return group(message, levels, false, at, stride, count, place, best);
     }
-    if mark == OBJECT {
+    if mark == Mark::OBJECT {
         return group(message, levels, true, at, stride, count, place, best);
     }
     leaf(message, at, stride, count, place, best)

@@ -1,7 +1,7 @@
 // Where a scalar ends; 0 where a few bytes don't tell, which is left to the reader.
 use crate::sizes::LONGEST;
 use crate::sizes::size_by_jump;
-use format::marks::CHAR;
+use format::marks::Mark;
 ghost use mathlib.Core.Path.{_≡_};
 ghost use Prim.Native.Nat.{_≤_, _<_};
 ghost use lib.ListN.{length, getD};
@@ -23,7 +23,7 @@ fn char_end(message: &[u8], at: usize) -> usize
     if message.len() - at < 2 {
         return 0;
     }
-    if message[at] != CHAR {
+    if message[at] != Mark::CHAR {
         return 0;
     }
     if 127 < message[at + 1] {

@@ -1,8 +1,7 @@
 // Where a short text or a short key ends, and a member's value in an object; 0 where a few bytes don't tell, which is left to the reader.
 use crate::scalars::scalar_value_end;
 use content::are_chars;
-use format::marks::TEXT;
-use format::marks::UINT8;
+use format::marks::Mark;
 ghost use mathlib.Core.Path.{_≡_};
 ghost use Prim.Native.Nat.{_+_, _≤_, _<_};
 ghost use lib.ListN.{length};
@@ -52,10 +51,10 @@ pub fn text_end(message: &[u8], at: usize) -> usize
     if left < 3 {
         return 0;
     }
-    if message[at] != TEXT {
+    if message[at] != Mark::TEXT {
         return 0;
     }
-    if message[at + 1] != UINT8 {
+    if message[at + 1] != Mark::UINT8 {
         return 0;
     }
     let n = message[at + 2] as usize;
@@ -79,7 +78,7 @@ pub fn key_end(message: &[u8], at: usize) -> usize
     if left < 2 {
         return 0;
     }
-    if message[at] != UINT8 {
+    if message[at] != Mark::UINT8 {
         return 0;
     }
     let n = message[at + 1] as usize;

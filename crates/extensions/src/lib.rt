@@ -1,7 +1,7 @@
 // Extensions.
 use format::answers::Kind;
 use format::limits::ID_LIMIT;
-use format::marks::EXTENSION;
+use format::marks::Mark;
 use scan::integers::Parsed;
 use scan::integers::integer;
 use scan::integers::integer_to;
@@ -76,7 +76,7 @@ pub fn extension(message: &[u8], rows: &mut [u32], lent: usize, at: usize, row: 
         Head::Refused(number, place) => Step::Fault(number, place),
         Head::Of(id, n, start) => {
             let size = n as usize;
-            match payload_end(message, EXTENSION, start, size) {
+            match payload_end(message, Mark::EXTENSION, start, size) {
                 Place::Refused(number, place) => Step::Fault(number, place),
                 Place::At(next) => {
                     let link = row + 1;
@@ -86,7 +86,7 @@ pub fn extension(message: &[u8], rows: &mut [u32], lent: usize, at: usize, row: 
                         row,
                         Entry {
                             kind: Kind::Extension,
-                            mark: EXTENSION,
+                            mark: Mark::EXTENSION,
                             first: at,
                             payload: start,
                             extent: size,

@@ -1,60 +1,7 @@
-// The marks. The bytes that go with a mark are said in `Mark::traits`; where a crate above says them again, they are proved equal.
+// The marks. The letters are named, and the bytes that go with a mark said, here and nowhere else in code.
 ghost use mathlib.Core.Path.{_≡_};
 ghost use Rattle.format.specs.Marks.{openingOf, opens, closes, isInteger, isSigned, isType, isScalar, isPlainLeaf, isLeaf, width, leafWidth, letterOf};
 ghost use Rattle.format.specs.Traits.{traitsOf};
-
-// The letters.
-pub const NULL: u8 = b'Z';
-
-pub const TRUE: u8 = b'T';
-
-pub const FALSE: u8 = b'F';
-
-pub const INT8: u8 = b'i';
-
-pub const UINT8: u8 = b'U';
-
-pub const INT16: u8 = b'I';
-
-pub const UINT16: u8 = b'u';
-
-pub const INT32: u8 = b'l';
-
-pub const UINT32: u8 = b'm';
-
-pub const INT64: u8 = b'L';
-
-pub const UINT64: u8 = b'M';
-
-pub const HALF: u8 = b'h';
-
-pub const SINGLE: u8 = b'd';
-
-pub const DOUBLE: u8 = b'D';
-
-pub const CHAR: u8 = b'C';
-
-pub const BYTE: u8 = b'B';
-
-pub const TEXT: u8 = b'S';
-
-pub const HIGH_PRECISION: u8 = b'H';
-
-pub const EXTENSION: u8 = b'E';
-
-pub const NOOP: u8 = b'N';
-
-pub const COUNT: u8 = b'#';
-
-pub const TYPE: u8 = b'$';
-
-pub const ARRAY: u8 = b'[';
-
-pub const ARRAY_END: u8 = b']';
-
-pub const OBJECT: u8 = b'{';
-
-pub const OBJECT_END: u8 = b'}';
 
 // A mark is a byte: the code of its letter.
 pub struct Mark(pub u8);
@@ -184,57 +131,58 @@ const OPAQUE8: Traits = Traits {
 };
 
 impl Mark {
-    pub const NULL: Mark = Mark(NULL);
+    // The letters.
+    pub const NULL: u8 = b'Z';
 
-    pub const TRUE: Mark = Mark(TRUE);
+    pub const TRUE: u8 = b'T';
 
-    pub const FALSE: Mark = Mark(FALSE);
+    pub const FALSE: u8 = b'F';
 
-    pub const INT8: Mark = Mark(INT8);
+    pub const INT8: u8 = b'i';
 
-    pub const UINT8: Mark = Mark(UINT8);
+    pub const UINT8: u8 = b'U';
 
-    pub const INT16: Mark = Mark(INT16);
+    pub const INT16: u8 = b'I';
 
-    pub const UINT16: Mark = Mark(UINT16);
+    pub const UINT16: u8 = b'u';
 
-    pub const INT32: Mark = Mark(INT32);
+    pub const INT32: u8 = b'l';
 
-    pub const UINT32: Mark = Mark(UINT32);
+    pub const UINT32: u8 = b'm';
 
-    pub const INT64: Mark = Mark(INT64);
+    pub const INT64: u8 = b'L';
 
-    pub const UINT64: Mark = Mark(UINT64);
+    pub const UINT64: u8 = b'M';
 
-    pub const HALF: Mark = Mark(HALF);
+    pub const HALF: u8 = b'h';
 
-    pub const SINGLE: Mark = Mark(SINGLE);
+    pub const SINGLE: u8 = b'd';
 
-    pub const DOUBLE: Mark = Mark(DOUBLE);
+    pub const DOUBLE: u8 = b'D';
 
-    pub const CHAR: Mark = Mark(CHAR);
+    pub const CHAR: u8 = b'C';
 
-    pub const BYTE: Mark = Mark(BYTE);
+    pub const BYTE: u8 = b'B';
 
-    pub const TEXT: Mark = Mark(TEXT);
+    pub const TEXT: u8 = b'S';
 
-    pub const HIGH_PRECISION: Mark = Mark(HIGH_PRECISION);
+    pub const HIGH_PRECISION: u8 = b'H';
 
-    pub const EXTENSION: Mark = Mark(EXTENSION);
+    pub const EXTENSION: u8 = b'E';
 
-    pub const NOOP: Mark = Mark(NOOP);
+    pub const NOOP: u8 = b'N';
 
-    pub const COUNT: Mark = Mark(COUNT);
+    pub const COUNT: u8 = b'#';
 
-    pub const TYPE: Mark = Mark(TYPE);
+    pub const TYPE: u8 = b'$';
 
-    pub const ARRAY: Mark = Mark(ARRAY);
+    pub const ARRAY: u8 = b'[';
 
-    pub const ARRAY_END: Mark = Mark(ARRAY_END);
+    pub const ARRAY_END: u8 = b']';
 
-    pub const OBJECT: Mark = Mark(OBJECT);
+    pub const OBJECT: u8 = b'{';
 
-    pub const OBJECT_END: Mark = Mark(OBJECT_END);
+    pub const OBJECT_END: u8 = b'}';
 
     // The mark that a word of a row stands for; 0, which is none, where the word is no byte.
     pub fn of(word: u32) -> Mark
@@ -251,22 +199,22 @@ impl Mark {
     {
         let m = self.0;
         match m {
-            NULL => EMPTY,
-            TRUE => EMPTY,
-            FALSE => EMPTY,
-            INT8 => SIGNED1,
-            UINT8 => UNSIGNED1,
-            INT16 => SIGNED2,
-            UINT16 => UNSIGNED2,
-            INT32 => SIGNED4,
-            UINT32 => UNSIGNED4,
-            INT64 => SIGNED8,
-            UINT64 => UNSIGNED8,
-            HALF => OPAQUE2,
-            SINGLE => OPAQUE4,
-            DOUBLE => OPAQUE8,
-            CHAR => OPAQUE1,
-            BYTE => OPAQUE1,
+            Mark::NULL => EMPTY,
+            Mark::TRUE => EMPTY,
+            Mark::FALSE => EMPTY,
+            Mark::INT8 => SIGNED1,
+            Mark::UINT8 => UNSIGNED1,
+            Mark::INT16 => SIGNED2,
+            Mark::UINT16 => UNSIGNED2,
+            Mark::INT32 => SIGNED4,
+            Mark::UINT32 => UNSIGNED4,
+            Mark::INT64 => SIGNED8,
+            Mark::UINT64 => UNSIGNED8,
+            Mark::HALF => OPAQUE2,
+            Mark::SINGLE => OPAQUE4,
+            Mark::DOUBLE => OPAQUE8,
+            Mark::CHAR => OPAQUE1,
+            Mark::BYTE => OPAQUE1,
             _ => OTHER,
         }
     }
@@ -309,7 +257,7 @@ impl Mark {
         ensures { λ r. ⌜ r ≡ leafWidth (self .0) ⌝ }
     {
         let m = self.0;
-        if m == TRUE {
+        if m == Mark::TRUE {
             return 1;
         }
         self.width()
@@ -320,10 +268,10 @@ impl Mark {
         ensures { λ r. ⌜ r ≡ isPlainLeaf (self .0) ⌝ }
     {
         let m = self.0;
-        if m == TRUE {
+        if m == Mark::TRUE {
             return true;
         }
-        if m == NULL {
+        if m == Mark::NULL {
             return true;
         }
         self.is_type()
@@ -337,7 +285,7 @@ impl Mark {
         if self.is_plain_leaf() {
             return true;
         }
-        m == TEXT
+        m == Mark::TEXT
     }
 }
 
@@ -346,9 +294,9 @@ pub fn opening_mark(brace: bool) -> u8
     ensures { λ r. ⌜ r ≡ opens (openingOf brace) ⌝ }
 {
     if brace {
-        return OBJECT;
+        return Mark::OBJECT;
     }
-    ARRAY
+    Mark::ARRAY
 }
 
 // The closing mark.
@@ -356,7 +304,7 @@ pub fn closing_mark(brace: bool) -> u8
     ensures { λ r. ⌜ r ≡ closes (openingOf brace) ⌝ }
 {
     if brace {
-        return OBJECT_END;
+        return Mark::OBJECT_END;
     }
-    ARRAY_END
+    Mark::ARRAY_END
 }

@@ -2,7 +2,7 @@
 use crate::dump;
 use crate::held;
 use format::answers::Located;
-use format::marks::ARRAY;
+use format::marks::Mark;
 use grid::numbers::least;
 use grid::numbers::sum;
 use grid::shape;
@@ -113,7 +113,7 @@ fn packed(rows: &[u32], row: usize, out: &mut [u8], at: usize) -> usize {
 
 // How a table is laid out.
 fn layout(rows: &[u32], row: usize, out: &mut [u8], at: usize) -> usize {
-    if word(rows, row, 1) == ARRAY as usize {
+    if word(rows, row, 1) == Mark::ARRAY as usize {
         return text(out, at, b" by rows, ");
     }
     text(out, at, b" by columns, ")

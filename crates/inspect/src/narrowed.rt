@@ -2,7 +2,7 @@
 // Where a leaf's slots stand goes by the rows of the table, its schema, the top-level field, the leaf and the dimensions.
 use crate::way;
 use crate::way::Way;
-use format::marks::ARRAY;
+use format::marks::Mark;
 use grid::numbers::narrow;
 use grid::numbers::sum;
 use grid::shape;
@@ -75,7 +75,7 @@ pub fn shared(rows: &[u32], row: usize, into: &mut [u32; 128]) {
 pub fn leaf(rows: &[u32], w: Way, into: &mut [u32; 128]) {
     let mut field = load(rows, way::member(w, 0));
     field.kind = FIXED;
-    field.mark = ARRAY as u32;
+    field.mark = Mark::ARRAY as u32;
     field.link = narrow(sum(LEAF, 1));
     store(into, FIELD, field);
     put(rows, way::last(w), into, LEAF, sum(LEAF, 1));

@@ -3,7 +3,7 @@ use crate::describe;
 use crate::narrowed::LEAF;
 use crate::path;
 use crate::way::Way;
-use format::marks::TEXT;
+use format::marks::Mark;
 use grid::ask;
 use grid::shape;
 use show::block::byte;
@@ -64,7 +64,7 @@ fn value(
     let mark = shape::mark(alone, 0, LEAF);
     let marked = describe::mark(out, at, mark);
     let equal = text(out, marked, b" = ");
-    if mark == TEXT as usize {
+    if mark == Mark::TEXT as usize {
         let located = ask::texted(message, alone, 0, LEAF, indexes, count);
         return describe::located(message, located, out, equal);
     }

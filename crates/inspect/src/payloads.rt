@@ -10,7 +10,7 @@ use crate::walk::payload_end;
 use crate::way;
 use crate::way::Way;
 use format::answers::Located;
-use format::marks::OBJECT;
+use format::marks::Mark;
 use grid::ask;
 use grid::numbers::least;
 use grid::numbers::less;
@@ -278,7 +278,7 @@ fn listed(message: &[u8], rows: &[u32], row: usize, out: &mut [u8], s: Listing) 
     if shape::is_packed(rows, row) {
         return elements(message, rows, &mut alone, row, out, s);
     }
-    if word(rows, row, 1) == OBJECT as usize {
+    if word(rows, row, 1) == Mark::OBJECT as usize {
         return columns(message, rows, &mut alone, row, out, s);
     }
     let end = shape::schema_end(rows, row);

@@ -4,7 +4,7 @@ use crate::dump;
 use format::answers::Answer;
 use format::answers::Edition;
 use format::limits::LIMIT;
-use format::marks::EXTENSION;
+use format::marks::Mark;
 use grid::numbers::byte;
 use reader::message::rows_needed;
 use show::block::line;
@@ -79,7 +79,7 @@ fn reason(
     let told = scalars::refused(out, at, refusal);
     let where_at = text(out, told, b", at byte ");
     let shown = number(out, where_at, place);
-    if refusal == NOT_ALLOWED && byte(message, place) == EXTENSION {
+    if refusal == NOT_ALLOWED && byte(message, place) == Mark::EXTENSION {
         return by_edition(edition, out, shown);
     }
     shown

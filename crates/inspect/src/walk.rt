@@ -1,10 +1,6 @@
 // The way through the bytes of an accepted message: which token each byte belongs to.
 use crate::held;
-use format::marks::COUNT;
 use format::marks::Mark;
-use format::marks::NOOP;
-use format::marks::TEXT;
-use format::marks::TYPE;
 use grid::numbers::byte;
 use grid::numbers::least;
 use grid::numbers::less;
@@ -59,7 +55,7 @@ pub fn payload_end(rows: &[u32], row: usize) -> usize {
 // The byte after a leaf's kind in a schema: its mark, and a text's length.
 fn leaf_end(message: &[u8], rows: &[u32], row: usize) -> usize {
     let first = word(rows, row, 2);
-    if byte(message, first) == TEXT {
+    if byte(message, first) == Mark::TEXT {
         let length = byte(message, sum(first, 1));
         return sum(sum(first, 2), Mark(length).width());
     }
@@ -138,7 +134,7 @@ pub fn is_past(rows: &[u32], used: usize, w: Walk) -> bool {
 // The byte after the no-ops that stand from a place on.
 fn noops_end(message: &[u8], from: usize) -> usize {
     let mut at = from;
-    while at < message.len() && message[at] == NOOP {
+    while at < message.len() && message[at] == Mark::NOOP {
         at += 1;
     }
     at
@@ -190,7 +186,7 @@ pub fn run_end(message: &[u8], rows: &[u32], used: usize, row: usize, w: Walk) -
 // Whether an array or object is counted, and has no closing mark.
 fn is_counted(message: &[u8], rows: &[u32], row: usize) -> bool {
     let b = byte(message, sum(word(rows, row, 2), 1));
-    b == COUNT || b == TYPE
+    b == Mark::COUNT || b == Mark::TYPE
 }
 
 // The byte after an array, an object, a packed array or a table.
@@ -236,5 +232,5 @@ pub fn closes(rows: &[u32], row: usize, from: usize) -> bool {
 
 // Whether the byte at a place is a no-op.
 pub fn is_noop(message: &[u8], at: usize) -> bool {
-    byte(message, at) == NOOP
+    byte(message, at) == Mark::NOOP
 }

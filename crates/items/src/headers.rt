@@ -1,8 +1,5 @@
 // What follows an opening mark, and whether one opens a plain container.
-use format::marks::ARRAY;
-use format::marks::COUNT;
-use format::marks::OBJECT;
-use format::marks::TYPE;
+use format::marks::Mark;
 use scan::integers::Parsed;
 use scan::integers::integer;
 ghost use mathlib.Core.Path.{_≡_};
@@ -40,10 +37,10 @@ pub fn header_at(message: &[u8], lent: usize, levels: usize, at: usize, row: usi
         return Header::Fault(2, end);
     }
     let b = message[next];
-    if b == TYPE {
+    if b == Mark::TYPE {
         return Header::Typed;
     }
-    if b != COUNT {
+    if b != Mark::COUNT {
         return Header::Plain;
     }
     match integer(message, at + 2) {
@@ -56,10 +53,10 @@ pub fn header_at(message: &[u8], lent: usize, levels: usize, at: usize, row: usi
 pub fn is_opening(b: u8) -> bool
     ensures { λ r. ⌜ (r ≡ true → b ≡ opens (openingOf (eqb b left-brace))) ⌝ }
 {
-    if b == ARRAY {
+    if b == Mark::ARRAY {
         return true;
     }
-    b == OBJECT
+    b == Mark::OBJECT
 }
 
 // Whether a plain container opens at `at` in an array, with a level and a row left.
@@ -90,10 +87,10 @@ pub fn opens_plain(
         return false;
     }
     let b = message[at + 1];
-    if b == TYPE {
+    if b == Mark::TYPE {
         return false;
     }
-    if b == COUNT {
+    if b == Mark::COUNT {
         return false;
     }
     true

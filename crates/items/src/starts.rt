@@ -2,12 +2,7 @@
 use extensions::extension;
 use format::answers::Edition;
 use format::answers::Kind;
-use format::marks::ARRAY;
-use format::marks::EXTENSION;
-use format::marks::HIGH_PRECISION;
 use format::marks::Mark;
-use format::marks::OBJECT;
-use format::marks::TEXT;
 use scan::noops::skip;
 use tokens::Step;
 use tokens::scalars::key;
@@ -48,11 +43,11 @@ fn class_of(edition: Edition, mark: u8) -> Class
         return Class::Scalar;
     }
     match mark {
-        TEXT => Class::Text,
-        HIGH_PRECISION => Class::HighPrecision,
-        ARRAY => Class::Bracket,
-        OBJECT => Class::Brace,
-        EXTENSION => match edition {
+        Mark::TEXT => Class::Text,
+        Mark::HIGH_PRECISION => Class::HighPrecision,
+        Mark::ARRAY => Class::Bracket,
+        Mark::OBJECT => Class::Brace,
+        Mark::EXTENSION => match edition {
             Edition::Old => Class::Other,
             Edition::New => Class::Extension,
         },
@@ -90,14 +85,14 @@ pub fn value_start(
     let mark = message[at];
     match class_of(edition, mark) {
         Class::Scalar => whole(scalar(message, rows, lent, mark, at + 1, at, row)),
-        Class::Text => whole(text(message, rows, lent, Kind::Text, TEXT, at, row)),
+        Class::Text => whole(text(message, rows, lent, Kind::Text, Mark::TEXT, at, row)),
         Class::HighPrecision => {
             whole(text(
                 message,
                 rows,
                 lent,
                 Kind::HighPrecision,
-                HIGH_PRECISION,
+                Mark::HIGH_PRECISION,
                 at,
                 row,
             ))

@@ -3,7 +3,6 @@ use crate::Kinds;
 use format::answers::Kind;
 use format::limits::RECORD_LIMIT;
 use format::marks::Mark;
-use format::marks::TEXT;
 use scan::integers::Parsed;
 use scan::integers::integer;
 use tokens::entry::Entry;
@@ -107,7 +106,7 @@ pub fn text_leaf(
         Parsed::Refused(number, place) => Kinds::Fault(number, place),
         Parsed::Number(n, next) => {
             let width = n as usize;
-            leaf(rows, TEXT, at, row, offset, width, next)
+            leaf(rows, Mark::TEXT, at, row, offset, width, next)
         }
     }
 }

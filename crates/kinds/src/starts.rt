@@ -3,12 +3,7 @@
 use crate::Kinds;
 use crate::leaves::plain_leaf;
 use crate::leaves::text_leaf;
-use format::marks::ARRAY;
-use format::marks::HIGH_PRECISION;
 use format::marks::Mark;
-use format::marks::OBJECT;
-use format::marks::TEXT;
-use format::marks::TYPE;
 use tokens::Step;
 use tokens::scalars::key;
 ghost use mathlib.Core.Path.{_≡_};
@@ -43,16 +38,16 @@ fn class_of(mark: u8) -> Class
     if Mark(mark).is_plain_leaf() {
         return Class::Plain;
     }
-    if mark == TEXT {
+    if mark == Mark::TEXT {
         return Class::Text;
     }
-    if mark == HIGH_PRECISION {
+    if mark == Mark::HIGH_PRECISION {
         return Class::Refused(13);
     }
-    if mark == ARRAY {
+    if mark == Mark::ARRAY {
         return Class::Array;
     }
-    if mark == OBJECT {
+    if mark == Mark::OBJECT {
         return Class::Record;
     }
     Class::Refused(3)
@@ -75,7 +70,7 @@ fn array_start(message: &[u8], lent: usize, levels: usize, at: usize, row: usize
     if end <= next {
         return Start::Ended(Kinds::Fault(2, end));
     }
-    if message[next] == TYPE {
+    if message[next] == Mark::TYPE {
         return Start::Ended(Kinds::Fault(13, at));
     }
     Start::Array(at, row)

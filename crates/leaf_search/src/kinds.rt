@@ -3,8 +3,7 @@ use crate::leaves::Seen;
 use crate::leaves::Walk;
 use crate::leaves::leaf;
 use contents::walk::after_key;
-use format::marks::ARRAY;
-use format::marks::OBJECT;
+use format::marks::Mark;
 use format::marks::closing_mark;
 use scan::bytes::byte_at;
 use scan::bytes::stands;
@@ -19,10 +18,10 @@ pub fn kind(message: &[u8], levels: usize, at: usize, offset: usize, seen: Seen)
     ensures bounds { λ r. ⌜ Ends offset r ⌝ }
 {
     let mark = byte_at(message, at);
-    if mark == ARRAY {
+    if mark == Mark::ARRAY {
         return group(message, levels, false, at, offset, seen);
     }
-    if mark == OBJECT {
+    if mark == Mark::OBJECT {
         return group(message, levels, true, at, offset, seen);
     }
     leaf(message, at, offset, seen)

@@ -1,7 +1,6 @@
 // The leaf that is looked for, among the leaves of a schema.
 use format::limits::RECORD_LIMIT;
 use format::marks::Mark;
-use format::marks::TEXT;
 use scan::integers::Parsed;
 use scan::integers::integer;
 ghost use mathlib.Core.Path.{_≡_};
@@ -90,7 +89,7 @@ pub fn leaf(message: &[u8], at: usize, offset: usize, seen: Seen) -> Walk
         let wide = kind.leaf_width();
         return leaf_over(wide, at + 1, offset, seen);
     }
-    if mark != TEXT {
+    if mark != Mark::TEXT {
         return off;
     }
     match integer(message, at + 1) {

@@ -2,7 +2,7 @@
 use containers::lists::Listed;
 use containers::lists::close;
 use format::answers::Edition;
-use format::marks::OBJECT;
+use format::marks::Mark;
 use format::marks::closing_mark;
 use items::headers::Header;
 use items::headers::header_at;
@@ -114,7 +114,7 @@ fn following(
     ensures bounds { λ r. ⌜ FollowingWithin r at (length (now (message .entry))) lent ⌝ }
 {
     if opens_plain(message, lent, levels, brace, at, row) {
-        let inner = message[at] == OBJECT;
+        let inner = message[at] == Mark::OBJECT;
         let start = at + 1;
         let below = row + 1;
         let list = held(
@@ -222,7 +222,7 @@ fn deep(
     if !opens_deep(message, lent, levels, brace, start, first) {
         return rest(edition, message, rows, lent, levels, brace, start, first, 0);
     }
-    let inner = message[start] == OBJECT;
+    let inner = message[start] == Mark::OBJECT;
     let next = start + 1;
     let below = first + 1;
     let list = deep(edition, message, rows, lent, levels - 1, inner, next, below);

@@ -32,7 +32,7 @@ use Rattle.storage.proofs.MessageSlots.{payload-in-message, is-stored}
 use Rattle.panel_laws.proofs.Picks.{table-picked}
 use Rattle.panel_laws.proofs.Looked.{Looked, found, nowhere, looked}
 use Rattle.seek.specs.Tables.{Found}
-use Rattle.records.specs.Slots.{tableOf, slotOf}
+use Rattle.records.specs.Slots.{tableOf, slotOf, TableHere}
 use Rattle.panel.specs.Layout.{slotParts}
 
 -- a slot that is taken ends by the end of all
@@ -71,6 +71,21 @@ module _ (m : List ℕ) (f : Forest) (accepted : readWhole m new ≡ done f) (ro
       (omega arith, omega arith)
 
 -- ---- the call
+
+-- where a table is found, one begins
+pub table-here : (m : List ℕ) (number : ℕ) (f : Forest) → readWhole m new ≡ done f → (opening : Opening) (first row : ℕ)
+    → Found m (tables 0 f) number opening first row → TableHere m opening first
+unfolding readWhole
+table-here m number f accepted opening first row h =
+    record {
+      short = accepted-short m (length m) new f accepted;
+      lent = length m;
+      row = row;
+      next = h .end;
+      token = h .table .token;
+      under = h .table .under;
+      read = h .read;
+    }
 
 -- what isn't there is 10
 pick-refuses : {A : Type 0} (l : List A) (i n p : ℕ) → pick l i ≡ fault n p → n ≡ notThere

@@ -106,11 +106,10 @@ pub in-four : (n : ℕ) → 65536 ≤ n → smallest n ≡ 'm'
 unfolding smallest width among if_then_else_
 in-four n h = rw (le-ltb n 256 (omega arith), le-ltb n 65536 h) refl
 
--- the mark, and then so many digits
-pub integer-puts : {l l′ l″ : List ℕ} {at mid next : ℕ} (n mark : ℕ) → smallest n ≡ mark → Puts l l′ at mid (mark ∷ []) → Puts l′ l″ mid next (digits (width mark) n)
-    → Puts l l″ at next (smallInteger n)
+-- a number under the smallest mark
+pub integer-puts : {l l′ : List ℕ} {at next : ℕ} (n mark : ℕ) → smallest n ≡ mark → Puts l l′ at next (mark ∷ digits (width mark) n) → Puts l l′ at next (smallInteger n)
 unfolding smallInteger
-integer-puts n mark e p q = rw e (puts-append (mark ∷ []) (digits (width mark) n) p q)
+integer-puts n mark e p = rw e p
 
 -- nine bytes at most
 pub integer-few : (n : ℕ) → length (smallInteger n) ≤ 9

@@ -1,9 +1,8 @@
 // Bytes, parts and integers.
-use format::marks::UINT8;
-use format::marks::UINT16;
-use format::marks::UINT32;
+use format::marks::Mark;
 ghost use mathlib.Core.List.{[], _∷_};
 ghost use Prim.Native.Nat.{_<_, _≤_, _^_};
+ghost use Rattle.format.specs.Marks.{width};
 ghost use Rattle.format.specs.HouseForm.{digits, smallInteger};
 ghost use Rattle.pieces.specs.Puts.{Puts};
 
@@ -52,19 +51,25 @@ fn put_digits(output: &mut [u8], at: usize, width: usize, n: u32) -> usize
     to
 }
 
+// A number under a mark: the mark, and as many bytes as go with it.
+fn put_number(output: &mut [u8], at: usize, mark: u8, n: u32) -> usize
+    requires { ⌜ at < 2 ^ 61 ⌝ }
+    ensures { λ r. ⌜ Puts (now (output .entry)) (now (output .exit)) at r (mark ∷ digits (width mark) n) ⌝ }
+{
+    let next = put(output, at, mark);
+    put_digits(output, next, Mark(mark).width(), n)
+}
+
 // A length, a count or a dimension: the smallest of `U u m` that holds it, and its number.
 pub fn put_integer(output: &mut [u8], at: usize, n: u32) -> usize
     requires { ⌜ at < 2 ^ 61 ⌝ }
     ensures { λ r. ⌜ Puts (now (output .entry)) (now (output .exit)) at r (smallInteger n) ⌝ }
 {
     if n < 256 {
-        let next = put(output, at, UINT8);
-        return put_digits(output, next, 1, n);
+        return put_number(output, at, Mark::UINT8, n);
     }
     if n < 65536 {
-        let next = put(output, at, UINT16);
-        return put_digits(output, next, 2, n);
+        return put_number(output, at, Mark::UINT16, n);
     }
-    let next = put(output, at, UINT32);
-    put_digits(output, next, 4, n)
+    put_number(output, at, Mark::UINT32, n)
 }

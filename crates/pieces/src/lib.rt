@@ -5,10 +5,7 @@ pub mod bytes;
 use crate::bytes::put;
 use crate::bytes::put_integer;
 use crate::bytes::put_part;
-use format::marks::ARRAY;
-use format::marks::ARRAY_END;
-use format::marks::COUNT;
-use format::marks::TEXT;
+use format::marks::Mark;
 ghost use mathlib.Core.List.{[], _∷_, _++_};
 ghost use Prim.Native.Nat.{_<_, _^_};
 ghost use lib.Dec.{eqb};
@@ -51,7 +48,7 @@ pub fn put_counted(output: &mut [u8], at: usize, mark: u8, count: u32) -> usize
     ensures { λ r. ⌜ Puts (now (output .entry)) (now (output .exit)) at r (mark ∷ '#' ∷ smallInteger count) ⌝ }
 {
     let next = put(output, at, mark);
-    let after = put(output, next, COUNT);
+    let after = put(output, next, Mark::COUNT);
     put_integer(output, after, count)
 }
 
@@ -61,7 +58,7 @@ pub fn put_leaf(output: &mut [u8], at: usize, mark: u8, wide: u32) -> usize
     ensures { λ r. ⌜ Puts (now (output .entry)) (now (output .exit)) at r (mark ∷ (if eqb mark 'S' then smallInteger wide else [])) ⌝ }
 {
     let next = put(output, at, mark);
-    if mark != TEXT {
+    if mark != Mark::TEXT {
         return next;
     }
     put_integer(output, next, wide)
@@ -75,11 +72,11 @@ pub fn put_shape_start(output: &mut [u8], at: usize, order: u32, count: u32) -> 
     if order == 0 {
         return put_integer(output, at, count);
     }
-    let next = put(output, at, ARRAY);
+    let next = put(output, at, Mark::ARRAY);
     if order == 1 {
         return next;
     }
-    put(output, next, ARRAY)
+    put(output, next, Mark::ARRAY)
 }
 
 // What stands after them.
@@ -90,9 +87,9 @@ pub fn put_shape_end(output: &mut [u8], at: usize, order: u32) -> usize
     if order == 0 {
         return at;
     }
-    let next = put(output, at, ARRAY_END);
+    let next = put(output, at, Mark::ARRAY_END);
     if order == 1 {
         return next;
     }
-    put(output, next, ARRAY_END)
+    put(output, next, Mark::ARRAY_END)
 }

@@ -11,6 +11,8 @@ use scan::noops::skip;
 use tokens::Step;
 ghost use mathlib.Core.Path.{_≡_};
 ghost use lib.ListN.{length};
+ghost use Rattle.format.specs.Outcome.{fault};
+ghost use Rattle.format.specs.Rows.{zeros};
 ghost use Rattle.format.specs.Read.{read as readOf, readWhole, readInto, rowsUsed, wordsAfter};
 ghost use Rattle.format.specs.Answers.{answered, grammarOf};
 ghost use Rattle.reader.specs.Message.{WholeMeets, WholeWithin, frontWords};
@@ -37,6 +39,15 @@ fn read_core(edition: Edition, message: &[u8], rows: &mut [u32], lent: usize) ->
     }
 }
 
+// A refusal: every lent word is zero.
+fn refused(words: &mut [u32], number: u32, place: usize) -> Answer
+    ensures answer { λ r. ⌜ answered r ≡ fault number place ⌝ }
+    ensures words { λ _. ⌜ now (words .exit) ≡ zeros (length (now (words .entry))) ⌝ }
+{
+    clear(words);
+    Answer::Refused(number, place)
+}
+
 // Reads a message into lent rows: the rows used, or a refusal's number and place. What isn't filled is zero, on refusal all.
 pub fn read(edition: Edition, message: &[u8], rows: &mut [u32]) -> Answer
     ensures answer { λ r. ⌜ answered r ≡ rowsUsed (readInto (now (message .entry)) (now (rows .entry)) (grammarOf edition)) ⌝ }
@@ -44,10 +55,7 @@ pub fn read(edition: Edition, message: &[u8], rows: &mut [u32]) -> Answer
 {
     let lent = count(rows);
     match read_core(edition, message, rows, lent) {
-        Step::Fault(n, p) => {
-            clear(rows);
-            Answer::Refused(n, p)
-        }
+        Step::Fault(n, p) => refused(rows, n, p),
         Step::Next(_, row) => {
             clear_from(rows, row * 8);
             Answer::Done(row)
@@ -74,10 +82,7 @@ pub fn read_front(edition: Edition, message: &[u8], rows: &mut [u32]) -> Answer
 {
     clear(rows);
     match read_core(edition, message, rows, message.len()) {
-        Step::Fault(n, p) => {
-            clear(rows);
-            Answer::Refused(n, p)
-        }
+        Step::Fault(n, p) => refused(rows, n, p),
         Step::Next(_, row) => Answer::Done(row),
     }
 }

@@ -1,9 +1,13 @@
 -- The slot of a leaf and a record of a table: what `Panel.panelSlot` answers once the table is found.
 use Prim.Native.Nat.{ℕ, _+_, _-_, _*_, _≤_, _<_}
+use mathlib.Core.Path.{_≡_}
+use mathlib.Core.List.{List}
+use lib.ListN.{length}
 use Rattle.format.specs.Limits.{limit, recordLimit}
 use Rattle.format.specs.Outcome.{Outcome, done, _>>=_}
 use Rattle.format.specs.Marks.{Opening, bracket, brace}
-use Rattle.format.specs.Tokens.{Token, Forest}
+use Rattle.format.specs.Tokens.{Token, Forest, none, node}
+use Rattle.format.specs.Containers as Containers
 use Rattle.format.specs.Indexes.{below}
 use Rattle.format.specs.Storage.{slotsOf}
 use Rattle.format.specs.Addresses.{Region}
@@ -11,6 +15,16 @@ use Rattle.format.specs.Panel.{Table, leafRows, pick, slotFor}
 
 abbrev pub tableOf : ℕ → Token → Forest → Table
 tableOf row token under = record { row = row; token = token; under = under }
+
+-- a table begins here, in a message that isn't too long
+pub record TableHere (m : List ℕ) (opening : Opening) (at : ℕ) : Type 0 where
+  pub short : length m ≤ limit
+  pub lent : ℕ
+  pub row : ℕ
+  pub next : ℕ
+  pub token : Token
+  pub under : Forest
+  pub read : Containers.table m lent opening at row ≡ done (node token under none, next)
 
 -- by leaf, in schema order, and record, in storage order, both from 0
 unfoldable pub slotOf : Table → ℕ → ℕ → Outcome Region

@@ -1,7 +1,7 @@
 // The top-level fields of a table's schema, and the leaf that is looked for in one of them.
 use contents::walk::after_key;
 use format::limits::SCHEMA_LEVELS;
-use format::marks::OBJECT_END;
+use format::marks::Mark;
 use leaf_search::kinds::kind;
 use leaf_search::leaves::Seen;
 use leaf_search::leaves::newer;
@@ -60,7 +60,7 @@ pub fn fields_at(message: &[u8], schema: usize, leaf: usize) -> Fields
         span = newer(seen, beyond - wide, span);
         seen = walk.seen;
         wide = beyond;
-        if stands(message, after, OBJECT_END) {
+        if stands(message, after, Mark::OBJECT_END) {
             let next = after + 1;
             return Fields {
                 next,

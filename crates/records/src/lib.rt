@@ -1,4 +1,4 @@
 // The slot of a leaf and a record of a table, from the message only: the schema's bytes are walked once, so no row table is needed.
-pub mod counts;
-pub mod fields;
+mod counts;
+mod fields;
 pub mod slot;

@@ -13,7 +13,7 @@ ghost use Rattle.format.specs.Marks.{openingOf};
 ghost use Rattle.format.specs.Tokens.{Token, Forest, node, none};
 ghost use Rattle.format.specs.Containers.{table};
 ghost use Rattle.format.specs.Answers.{located, firstAndWidth};
-ghost use Rattle.records.specs.Slots.{tableOf, slotOf, leafPlace, InTable};
+ghost use Rattle.records.specs.Slots.{tableOf, slotOf, leafPlace, InTable, TableHere};
 
 // The last place of a message.
 const MOST: usize = LIMIT as usize;
@@ -43,6 +43,7 @@ fn place(
 
 // The slot of a leaf, in schema order, and a record, in storage order, both from 0, of the table whose first byte is at `at`.
 pub fn slot_in(message: &[u8], brace: bool, at: usize, leaf: usize, number: usize) -> Located
+    requires { ⌜ TableHere (now message) (openingOf brace) at ⌝ }
     ensures { λ r. ⌜ ((lent row next : ℕ) (token : Token) (under : Forest) → length (now (message .entry)) ≤ limit
         → table (now (message .entry)) lent (openingOf brace) at row ≡ done (node token under none, next)
         → located r ≡ firstAndWidth (slotOf (tableOf row token under) leaf number)) ⌝ }

@@ -9,7 +9,6 @@ use ends::texts::text_end;
 use ends::texts::value_end;
 use format::answers::Kind;
 use format::marks::Mark;
-use format::marks::TEXT;
 use scan::bytes::byte_at;
 use tokens::entry::Entry;
 use tokens::entry::put;
@@ -161,7 +160,7 @@ fn texts(
             return Run { at, row, count };
         }
         let payload = at + 3;
-        put_alone(rows, row, Kind::Text, TEXT, at, payload, next);
+        put_alone(rows, row, Kind::Text, Mark::TEXT, at, payload, next);
         at = next;
         row += 1;
         count += 1;
@@ -174,9 +173,9 @@ fn put_value(rows: &mut [u32], row: usize, mark: u8, at: usize, next: usize)
     requires { ⌜ (row ≤ at) × (valueStart mark at ≤ next) × (next ≤ limit) ⌝ }
     ensures { λ _. ⌜ now (rows .exit) ≡ storeIn (now (rows .entry)) row (rowOf (valueToken mark at next) (row + 1)) ⌝ }
 {
-    if mark == TEXT {
+    if mark == Mark::TEXT {
         let letters = at + 3;
-        put_alone(rows, row, Kind::Text, TEXT, at, letters, next);
+        put_alone(rows, row, Kind::Text, Mark::TEXT, at, letters, next);
     } else {
         let payload = at + 1;
         put_alone(rows, row, Kind::Scalar, mark, at, payload, next);
@@ -212,7 +211,7 @@ fn pairs(
             return Run { at, row, count };
         }
         let letters = at + 2;
-        put_alone(rows, row, Kind::Key, TEXT, at, letters, value);
+        put_alone(rows, row, Kind::Key, Mark::TEXT, at, letters, value);
         put_value(rows, below, message[value], value, next);
         at = next;
         row = below + 1;
@@ -234,7 +233,7 @@ fn values(
     ensures { λ r. ⌜ RunMeets r (now (message .entry)) lent bracket most start first (now (rows .entry)) (now (rows .exit)) ⌝ }
 {
     let mark = byte_at(message, start);
-    if mark == TEXT {
+    if mark == Mark::TEXT {
         return texts(message, rows, lent, most, start, first);
     }
     let n = size_of(mark);

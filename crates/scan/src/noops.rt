@@ -1,5 +1,5 @@
 // `N`, which is skipped where a value, key or closing mark may begin.
-use format::marks::NOOP;
+use format::marks::Mark;
 ghost use mathlib.Core.Path.{_≡_};
 ghost use Prim.Native.Nat.{_≤_, max};
 ghost use lib.ListN.{length};
@@ -12,7 +12,7 @@ pub fn skip(message: &[u8], at: usize) -> usize
 {
     let mut i = at;
     while i < message.len() {
-        if message[i] != NOOP {
+        if message[i] != Mark::NOOP {
             return i;
         }
         i += 1;

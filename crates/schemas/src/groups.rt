@@ -1,10 +1,7 @@
 // The records and fixed arrays of a schema, which hold each other: members one after another are a loop, nesting is a call.
 use format::answers::Kind;
 use format::limits::SCHEMA_LEVELS;
-use format::marks::ARRAY;
-use format::marks::ARRAY_END;
-use format::marks::OBJECT;
-use format::marks::OBJECT_END;
+use format::marks::Mark;
 use kinds::Kinds;
 use kinds::starts::Start;
 use kinds::starts::field_start;
@@ -90,10 +87,10 @@ pub fn record_kinds(
             }
         }
         count += 1;
-        if stands(message, here, OBJECT_END) {
+        if stands(message, here, Mark::OBJECT_END) {
             let after = here + 1;
             let group = Kind::SchemaRecord;
-            put_group(rows, row, group, OBJECT, at, offset, end, count, next);
+            put_group(rows, row, group, Mark::OBJECT, at, offset, end, count, next);
             return Kinds::Next(after, next, end);
         }
     }
@@ -134,10 +131,10 @@ pub fn array_kinds(
             }
         }
         count += 1;
-        if stands(message, here, ARRAY_END) {
+        if stands(message, here, Mark::ARRAY_END) {
             let after = here + 1;
             let group = Kind::FixedArray;
-            put_group(rows, row, group, ARRAY, at, offset, end, count, next);
+            put_group(rows, row, group, Mark::ARRAY, at, offset, end, count, next);
             return Kinds::Next(after, next, end);
         }
     }

@@ -11,9 +11,16 @@ use Rattle.format.specs.Marks.{Opening, openingOf}
 use Rattle.format.specs.Tokens.{Kind, kindNumber, Forest, none, node}
 use Rattle.format.specs.Rows.{Row}
 use Rattle.format.specs.Containers as Containers
+use Rattle.format.specs.Grammars.{new}
+use Rattle.format.specs.Read.{readWhole}
 use Rattle.format.specs.Panel.{Table, tables, pick}
 use Rattle.seek.specs.declared.TableFound.{TableFound}
 use Rattle.seek.specs.declared.TableFound.the-variants.{At, Missing}
+
+-- the new edition accepts this message
+pub record Accepted (m : List ℕ) : Type 0 where
+  pub tokens : Forest
+  pub read : readWhole m new ≡ done tokens
 
 -- the table with this number of a list: it begins and stands there, and is what is read there
 pub record Found (m : List ℕ) (ts : List Table) (number : ℕ) (opening : Opening) (first row : ℕ) : Type 0 where

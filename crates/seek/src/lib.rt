@@ -10,7 +10,7 @@ ghost use Rattle.format.specs.Outcome.{done};
 ghost use Rattle.format.specs.Tokens.{Forest};
 ghost use Rattle.format.specs.Grammars.{new};
 ghost use Rattle.format.specs.Read.{readWhole};
-ghost use Rattle.seek.specs.Tables.{TableMeets};
+ghost use Rattle.seek.specs.Tables.{Accepted, TableMeets};
 
 mod nest;
 mod steps;
@@ -25,8 +25,9 @@ pub enum TableFound {
     Missing,
 }
 
-// The table with this number, from 0. Of a refused message nothing is said.
+// The table with this number, from 0, of an accepted message.
 pub fn table_at(message: &[u8], number: usize) -> TableFound
+    requires { ⌜ Accepted (now message) ⌝ }
     ensures { λ r. ⌜ ((f : Forest) → readWhole (now (message .entry)) new ≡ done f → TableMeets r (now (message .entry)) f number) ⌝ }
 {
     if (LIMIT as usize) < message.len() {

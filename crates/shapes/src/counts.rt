@@ -1,8 +1,7 @@
 // What stands after a `#`: a plain count or a dimension vector.
 use crate::vectors::vector;
 use dimensions::Dims;
-use format::marks::ARRAY;
-use format::marks::ARRAY_END;
+use format::marks::Mark;
 use scan::integers::Parsed;
 use scan::integers::integer;
 ghost use mathlib.Core.List.{List};
@@ -54,7 +53,7 @@ fn fastest(message: &[u8], rows: &mut [u32], lent: usize, at: usize, row: usize)
             if end <= next {
                 return Shaped::Refused(2, end);
             }
-            if message[next] != ARRAY_END {
+            if message[next] != Mark::ARRAY_END {
                 return Shaped::Refused(3, next);
             }
             Shaped::Shape {
@@ -103,14 +102,14 @@ pub fn shape(
     if end <= at {
         return Shaped::Refused(2, end);
     }
-    if message[at] != ARRAY {
+    if message[at] != Mark::ARRAY {
         return plain(message, at, row);
     }
     let second = at + 1;
     if end <= second {
         return Shaped::Refused(2, end);
     }
-    if message[second] != ARRAY {
+    if message[second] != Mark::ARRAY {
         return slowest(message, rows, lent, at, row);
     }
     if wraps {

@@ -5,10 +5,7 @@ use dimensions::forms::item;
 use dimensions::forms::marked;
 use dimensions::products::times;
 use format::limits::DIMENSION_LIMIT;
-use format::marks::ARRAY_END;
-use format::marks::COUNT;
 use format::marks::Mark;
-use format::marks::TYPE;
 use scan::integers::Parsed;
 use scan::integers::integer;
 ghost use lib.ListN.{length};
@@ -107,7 +104,7 @@ fn counted_bare(
     if end <= second {
         return Dims::Fault(2, end);
     }
-    if message[second] != COUNT {
+    if message[second] != Mark::COUNT {
         return Dims::Fault(3, second);
     }
     counted(message, rows, lent, place, Form::Bare(mark), at + 2, row)
@@ -146,7 +143,7 @@ fn listed(
         if end <= here {
             return Dims::Fault(2, end);
         }
-        if message[here] == ARRAY_END {
+        if message[here] == Mark::ARRAY_END {
             return Dims::Next(here + 1, free, many);
         }
         left -= 1;
@@ -171,13 +168,13 @@ pub fn vector(
         return Dims::Fault(2, end);
     }
     let b = message[at];
-    if b == ARRAY_END {
+    if b == Mark::ARRAY_END {
         return Dims::Fault(6, place);
     }
-    if b == COUNT {
+    if b == Mark::COUNT {
         return counted(message, rows, lent, place, Form::Marked, at + 1, row);
     }
-    if b == TYPE {
+    if b == Mark::TYPE {
         return counted_bare(message, rows, lent, place, at + 1, row);
     }
     listed(message, rows, lent, place, at, row)

@@ -2,7 +2,7 @@
 use addresses::slots::Slot;
 use addresses::slots::table;
 use format::answers::Located;
-use format::marks::TEXT;
+use format::marks::Mark;
 use texts::parts::part_at;
 ghost use mathlib.Core.Path.{_≡_};
 ghost use lib.ListN.{length};
@@ -24,7 +24,7 @@ pub fn number_in_table(
     match table(rows, message.len(), row, leaf, indexes) {
         Slot::Refused(number) => Located::Refused(number),
         Slot::At(mark, first, wide) => {
-            if mark != TEXT as u32 {
+            if mark != Mark::TEXT as u32 {
                 return Located::Refused(12);
             }
             Located::At(first, wide)

@@ -1,8 +1,7 @@
 // Text at a row.
 use crate::parts::part_at;
 use format::answers::Located;
-use format::marks::HIGH_PRECISION;
-use format::marks::TEXT;
+use format::marks::Mark;
 use rows::Row;
 use rows::count;
 use rows::load;
@@ -20,9 +19,9 @@ fn is_text_row(r: Row) -> bool
 {
     let kind = r.kind;
     match kind {
-        2 => r.mark == TEXT as u32,
-        3 => r.mark == HIGH_PRECISION as u32,
-        4 => r.mark == TEXT as u32,
+        2 => r.mark == Mark::TEXT as u32,
+        3 => r.mark == Mark::HIGH_PRECISION as u32,
+        4 => r.mark == Mark::TEXT as u32,
         _ => false,
     }
 }

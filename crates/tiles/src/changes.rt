@@ -9,9 +9,7 @@ use crate::tally::Tally;
 use crate::tally::next;
 use format::answers::Answer;
 use format::answers::Edition;
-use format::marks::CHAR;
-use format::marks::TEXT;
-use format::marks::TRUE;
+use format::marks::Mark;
 use generate::pen::Pen;
 use grid::ask;
 use grid::numbers::byte;
@@ -41,10 +39,10 @@ fn draw(pen: Pen, mark: usize) -> Pen {
     if pen.value % 16 == 0 {
         return drawn;
     }
-    if mark == CHAR as usize || mark == TEXT as usize {
+    if mark == Mark::CHAR as usize || mark == Mark::TEXT as usize {
         drawn.value = drawn.value % 128;
     }
-    if mark == TRUE as usize {
+    if mark == Mark::TRUE as usize {
         drawn.value = if drawn.value % 2 == 0 {
             b'T' as u32
         } else {

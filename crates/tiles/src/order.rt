@@ -1,6 +1,6 @@
 // The addresses of a packed array or a table, in storage order.
 use crate::entries;
-use format::marks::OBJECT;
+use format::marks::Mark;
 use grid::numbers::quotient;
 use grid::numbers::sum;
 use grid::shape::is_packed;
@@ -90,7 +90,7 @@ pub fn list_slots(rows: &[u32], row: usize, list: &mut [u32], entry: usize) -> u
     if is_packed(rows, row) {
         return list_values(rows, row, row, sum(row, 1), list, entry);
     }
-    if word(rows, row, 1) == OBJECT as usize {
+    if word(rows, row, 1) == Mark::OBJECT as usize {
         return list_columns(rows, row, list, entry);
     }
     list_values(rows, row, row, schema_end(rows, row), list, entry)

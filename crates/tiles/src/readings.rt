@@ -5,7 +5,7 @@ use crate::same::is_slot;
 use crate::same::is_value;
 use crate::tally::Tally;
 use crate::tally::next;
-use format::marks::TEXT;
+use format::marks::Mark;
 use grid::ask;
 use grid::numbers::least;
 use grid::shape;
@@ -22,7 +22,7 @@ fn is_read(message: &[u8], rows: &[u32], list: &[u32], entry: usize) -> bool {
     let width = entries::get(list, entry, entries::WIDTH);
     let valued = is_value(ask::value(message, rows, row, leaf, number));
     let text = ask::text(message, rows, row, leaf, number);
-    if shape::mark(rows, row, leaf) == TEXT as usize {
+    if shape::mark(rows, row, leaf) == Mark::TEXT as usize {
         return is_slot(text, first, width) && !valued;
     }
     is_refusal(text, DONT_FIT) && valued

@@ -6,7 +6,6 @@ use content::is_content;
 use format::answers::Kind;
 use format::limits::LIMIT;
 use format::marks::Mark;
-use format::marks::TEXT;
 use scan::integers::Parsed;
 use scan::integers::integer;
 use scan::integers::number;
@@ -174,8 +173,8 @@ pub fn key(message: &[u8], rows: &mut [u32], lent: usize, at: usize, row: usize)
         Parsed::Refused(number, place) => Step::Fault(number, place),
         Parsed::Number(n, start) => {
             let size = n as usize;
-            let end = payload_end(message, TEXT, start, size);
-            finish(rows, row, Kind::Key, TEXT, at, start, size, end)
+            let end = payload_end(message, Mark::TEXT, start, size);
+            finish(rows, row, Kind::Key, Mark::TEXT, at, start, size, end)
         }
     }
 }

@@ -4,7 +4,7 @@ use contents::tables::table_contents;
 use format::answers::Kind;
 use format::limits::LIMIT;
 use format::limits::RECORD_LIMIT;
-use format::marks::COUNT;
+use format::marks::Mark;
 use format::marks::opening_mark;
 use kinds::Kinds;
 use schemas::groups::table_schema;
@@ -84,7 +84,7 @@ pub fn table(
             if end <= from {
                 return Step::Fault(2, end);
             }
-            if message[from] != COUNT {
+            if message[from] != Mark::COUNT {
                 return Step::Fault(3, from);
             }
             match shape(message, rows, lent, false, from + 1, after) {

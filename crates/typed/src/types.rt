@@ -1,7 +1,5 @@
 // What follows `$`: a schema, or one of the thirteen marks and `#`.
-use format::marks::COUNT;
 use format::marks::Mark;
-use format::marks::OBJECT;
 ghost use Prim.Native.Nat.{_+_, _<_};
 ghost use lib.ListN.{length};
 ghost use Rattle.typed.specs.Types.{TypeMeets, TypeWithin};
@@ -25,7 +23,7 @@ pub fn type_at(message: &[u8], at: usize) -> ContainerType
         return ContainerType::Fault(2, end);
     }
     let mark = message[place];
-    if mark == OBJECT {
+    if mark == Mark::OBJECT {
         return ContainerType::Schema;
     }
     if !Mark(mark).is_type() {
@@ -35,7 +33,7 @@ pub fn type_at(message: &[u8], at: usize) -> ContainerType
     if end <= after {
         return ContainerType::Fault(2, end);
     }
-    if message[after] != COUNT {
+    if message[after] != Mark::COUNT {
         return ContainerType::Fault(3, after);
     }
     ContainerType::Of(mark)

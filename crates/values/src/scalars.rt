@@ -7,14 +7,7 @@ use format::answers::Kind;
 use format::answers::Token;
 use format::answers::Value;
 use format::answers::Valued;
-use format::marks::BYTE;
-use format::marks::CHAR;
-use format::marks::DOUBLE;
-use format::marks::FALSE;
-use format::marks::HALF;
 use format::marks::Mark;
-use format::marks::SINGLE;
-use format::marks::TRUE;
 use scan::bytes::within;
 use scan::integers::little_endian;
 ghost use mathlib.Core.Path.{_≡_};
@@ -48,9 +41,9 @@ fn is_true(mark: u8, bytes: &[u8]) -> bool
     ensures { λ r. ⌜ r ≡ eqb (getD (now (bytes .entry)) 0 mark) 'T' ⌝ }
 {
     if bytes.len() == 0 {
-        return mark == TRUE;
+        return mark == Mark::TRUE;
     }
-    bytes[0] == TRUE
+    bytes[0] == Mark::TRUE
 }
 
 // The value of bytes under a mark, no more of them than go with it.
@@ -68,19 +61,19 @@ fn value_of(mark: Mark, bytes: &[u8]) -> Value
     }
     let letter = mark.0;
     match letter {
-        HALF => single(single_bits(n as u16)),
-        SINGLE => single(n as u32),
-        DOUBLE => double(n),
-        CHAR => {
+        Mark::HALF => single(single_bits(n as u16)),
+        Mark::SINGLE => single(n as u32),
+        Mark::DOUBLE => double(n),
+        Mark::CHAR => {
             let code = n as u8;
             Value::Char(code)
         }
-        BYTE => {
+        Mark::BYTE => {
             let byte = n as u8;
             Value::Byte(byte)
         }
-        TRUE => Value::Boolean(is_true(letter, bytes)),
-        FALSE => Value::Boolean(is_true(letter, bytes)),
+        Mark::TRUE => Value::Boolean(is_true(letter, bytes)),
+        Mark::FALSE => Value::Boolean(is_true(letter, bytes)),
         _ => Value::Null,
     }
 }

@@ -1,9 +1,6 @@
 // What an address or a name needs of a row on its way: the kind, a mark and an order that the reader gives to a row in its place.
 use format::answers::Kind;
-use format::marks::ARRAY;
 use format::marks::Mark;
-use format::marks::OBJECT;
-use format::marks::TEXT;
 use rows::Row;
 ghost use mathlib.Core.Path.{_≡_};
 ghost use mathlib.Core.Bool.{_&&_};
@@ -57,10 +54,10 @@ fn is_letter(word: u32, letter: u8) -> bool
 fn is_layout(word: u32) -> bool
     ensures { λ b. ⌜ b ≡ among ('[' ∷ left-brace ∷ []) word ⌝ }
 {
-    if is_letter(word, ARRAY) {
+    if is_letter(word, Mark::ARRAY) {
         return true;
     }
-    is_letter(word, OBJECT)
+    is_letter(word, Mark::OBJECT)
 }
 
 fn is_packed(r: Row) -> bool
@@ -80,7 +77,7 @@ fn is_table(r: Row) -> bool
 pub fn is_key(r: Row) -> bool
     ensures { λ b. ⌜ b ≡ Addresses.isKey (rowOf r) ⌝ }
 {
-    let marked = is_letter(r.mark, TEXT);
+    let marked = is_letter(r.mark, Mark::TEXT);
     is_a(r, Kind::Key, marked, 0)
 }
 
@@ -94,14 +91,14 @@ pub fn is_leaf(r: Row) -> bool
 pub fn is_schema(r: Row) -> bool
     ensures { λ b. ⌜ b ≡ Addresses.isSchema (rowOf r) ⌝ }
 {
-    let marked = is_letter(r.mark, OBJECT);
+    let marked = is_letter(r.mark, Mark::OBJECT);
     is_a(r, Kind::SchemaRecord, marked, 0)
 }
 
 fn is_fixed(r: Row) -> bool
     ensures { λ b. ⌜ b ≡ Addresses.isFixed (rowOf r) ⌝ }
 {
-    let marked = is_letter(r.mark, ARRAY);
+    let marked = is_letter(r.mark, Mark::ARRAY);
     is_a(r, Kind::FixedArray, marked, 0)
 }
 
@@ -129,7 +126,7 @@ fn is_dimension(r: Row) -> bool
 fn has_names(r: Row) -> bool
     ensures { λ b. ⌜ b ≡ hasNames (rowOf r) ⌝ }
 {
-    let marked = is_letter(r.mark, OBJECT);
+    let marked = is_letter(r.mark, Mark::OBJECT);
     if is_a(r, Kind::Object, marked, 0) {
         return true;
     }

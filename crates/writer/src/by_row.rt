@@ -8,10 +8,7 @@ use crate::kinds::SCALAR;
 use crate::kinds::SCHEMA_RECORD;
 use crate::kinds::TABLE;
 use crate::kinds::is_list;
-use format::marks::ARRAY;
-use format::marks::COUNT;
 use format::marks::Mark;
-use format::marks::TYPE;
 use format::marks::closing_mark;
 use pieces::bytes::put;
 use pieces::bytes::put_integer;
@@ -76,10 +73,10 @@ fn put_packed(output: &mut [u8], at: usize, mark: u8, order: u32, count: u32) ->
     requires { ⌜ at < 2 ^ 58 ⌝ }
     ensures { λ s. ⌜ Puts (now (output .entry)) (now (output .exit)) at s ('[' ∷ '$' ∷ mark ∷ '#' ∷ shapeStart order count) ⌝ }
 {
-    let a = put(output, at, ARRAY);
-    let b = put(output, a, TYPE);
+    let a = put(output, at, Mark::ARRAY);
+    let b = put(output, a, Mark::TYPE);
     let c = put(output, b, mark);
-    let d = put(output, c, COUNT);
+    let d = put(output, c, Mark::COUNT);
     put_shape_start(output, d, order, count)
 }
 
@@ -98,7 +95,7 @@ pub fn put_head(output: &mut [u8], at: usize, r: Row) -> usize
     }
     let next = put(output, at, mark);
     if r.kind == TABLE {
-        return put(output, next, TYPE);
+        return put(output, next, Mark::TYPE);
     }
     next
 }
@@ -108,7 +105,7 @@ pub fn put_middle(output: &mut [u8], at: usize, r: Row) -> usize
     requires { ⌜ at < 2 ^ 58 ⌝ }
     ensures { λ s. ⌜ Puts (now (output .entry)) (now (output .exit)) at s (middle (rowOf r)) ⌝ }
 {
-    let next = put(output, at, COUNT);
+    let next = put(output, at, Mark::COUNT);
     put_shape_start(output, next, r.order, r.count)
 }
 

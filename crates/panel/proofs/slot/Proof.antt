@@ -3,7 +3,7 @@ use mathlib.Core.Path.{_∙_}
 use borrow.Author.Needs.{needs}
 use native.Mathlib.Omega.{arith}
 use Rattle.panel.proofs.Readings.{accepted, read-refused, refused-fits}
-use Rattle.panel.proofs.Slots.{refused-slot, missing-slot, refused-leaf, found-leaf, slot-there}
+use Rattle.panel.proofs.Slots.{refused-slot, missing-slot, refused-leaf, found-leaf, slot-there, table-here}
 use Rattle.panel.proofs.slot.Statement.{statement}
 use Rattle.panel.proofs.slot.Tie as tie
 
@@ -12,6 +12,14 @@ packed-requires c κs = let h = refused-fits _ _ _ (rw (c .before .refusal .give
 
 returns : tie.Need-returns
 returns c = c .packed .ensures ∙ refused-slot _ _ _ _ _ _ (read-refused _ _ _ (rw (c .before .before .refusal .given .1) at (c .before .before .before .before .rows-needed .ensures)))
+
+table-at-requires : tie.Need-table-at-requires
+table-at-requires c κs = let a = accepted _ _ (rw (c .enum-told .given .1) at (c .before .before .rows-needed .ensures)) in record { tokens = a .forest; read = a .read }
+
+slot-in-requires : tie.Need-slot-in-requires
+slot-in-requires c κs =
+    let a = accepted _ _ (rw (c .before .before .before .before .enum-told .given .1) at (c .before .before .before .before .before .before .rows-needed .ensures)) in
+    table-here _ _ (a .forest) (a .read) _ _ _ (rw (c .before .first .given .1) at (c .before .before .before .table-at .ensures (a .forest) (a .read)))
 
 packed-requires-3 : tie.Need-packed-requires-3
 packed-requires-3 c κs =
@@ -56,11 +64,11 @@ slot-spec =
     packed-requires
     returns
     (λ c. search needs)
-    (λ c κs. search needs)
+    table-at-requires
     (λ c. search needs)
     (λ c κs. search needs)
     (λ c. search needs)
-    (λ c κs. search needs)
+    slot-in-requires
     (λ c. search needs)
     packed-requires-3
     (λ c. search needs)

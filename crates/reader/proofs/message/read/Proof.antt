@@ -9,40 +9,16 @@ use Rattle.reader.proofs.MessageCases.{used, refused, words-filled, wor
 use Rattle.reader.proofs.message.read.Statement.{statement}
 use Rattle.reader.proofs.message.read.Tie as tie
 
-count-requires : tie.Need-count-requires
-count-requires c κs = search needs
-
-read-core-requires : tie.Need-read-core-requires
-read-core-requires c κs = search needs
-
-enum-known-n : tie.Need-enum-known-n
-enum-known-n c = search needs
-
-clear-requires : tie.Need-clear-requires
-clear-requires c κs = search needs
-
-enum-known-row : tie.Need-enum-known-row
-enum-known-row c = search needs
-
 mul-clear-from : tie.Need-mul-clear-from
 unfolding rowsIn
 mul-clear-from c = let w = rw (c .before .before .row .given .1) at (c .before .before .before .before .before .before .read-core .ensures .1) in omega (arith, c .before .before .before .before .before .before .before .before .count .ensures, c .before .before .before .before .before .before .before .before .before .before .before .before .good .1)
-
-clear-from-requires : tie.Need-clear-from-requires
-clear-from-requires c κs = search needs
-
-same-length : tie.Need-same-length
-same-length c = omega arith
 
 returns : tie.Need-returns
 unfolding readInto
 returns c =
     let q = rw (c .before .before .before .before .before .before .before .before .before .before .before .count .ensures) at (rw (c .before .before .before .before .before .n .given .1) at (c .before .before .before .before .before .before .before .before .before .read-core .ensures .0)) in
     let k : length (c .before .before .before .before .before .before .before .before .before .read-core .last .1 .1 .0) ≡ length (c .before .before .before .before .before .before .before .before .before .before .before .before .before .before .before .args .rows .now) = omega arith in
-    (refused _ _ _ q, c .before .before .clear .ensures ∙ rw k (words-zero _ _ _ _ q))
-
-same-length-2 : tie.Need-same-length-2
-same-length-2 c = omega arith
+    (c .before .before .refused .ensures .0 ∙ refused _ _ _ q, c .before .before .refused .ensures .1 ∙ rw k (words-zero _ _ _ _ q))
 
 returns-2 : tie.Need-returns-2
 unfolding readInto rowsIn
@@ -52,4 +28,17 @@ returns-2 c =
     (used _ _ _ _ l, c .before .before .clear-from .ensures ∙ words-filled _ _ _ _ l (omega (arith, c .before .before .before .before .before .before .before .before .before .before .before .count .ensures)))
 
 pub read-spec : {M : Type 1} → statement M
-read-spec = tie.close (tie.spec count-requires read-core-requires enum-known-n clear-requires enum-known-row mul-clear-from clear-from-requires same-length returns same-length-2 returns-2)
+read-spec =
+    tie.close
+    (tie.spec
+    (λ c κs. search needs)
+    (λ c κs. search needs)
+    (λ c. search needs)
+    (λ c κs. search needs)
+    (λ c. search needs)
+    mul-clear-from
+    (λ c κs. search needs)
+    (λ c. omega arith)
+    returns
+    (λ c. omega arith)
+    returns-2)
