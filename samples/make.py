@@ -4,9 +4,10 @@ import os
 import struct
 
 HERE = os.path.dirname(os.path.abspath(__file__))
-ROOMS = 40
+# The rooms are numbered 1 to 40; room n is record n - 1.
+ROOMS = range(1, 41)
 # The rooms whose alert mark is set.
-ALERTS = (3, 17, 18, 31)
+ALERTS = (4, 18, 19, 32)
 
 
 def key(name):
@@ -18,8 +19,8 @@ def schema(*fields):
 
 
 def temperature(room):
-    """A quarter of a degree is a power of two, so that each is a single exactly; room 17 has a tenth, which is none."""
-    return struct.pack("<f", 28.1 if room == 17 else 20.25 + 0.25 * (room % 9))
+    """A quarter of a degree is a power of two, so that each is a single exactly; room 18 has a tenth, which is none."""
+    return struct.pack("<f", 28.1 if room == 18 else 20.25 + 0.25 * ((room - 1) % 9))
 
 
 def alert(room):
@@ -31,7 +32,7 @@ START = 1_794_787_200
 
 
 def time(room):
-    return struct.pack("<I", START + 60 * room)
+    return struct.pack("<I", START + 60 * (room - 1))
 
 
 FIELDS = schema((b"temperature", b"d"), (b"alert", b"T"), (b"time", b"m"))
@@ -40,11 +41,11 @@ PLACES = schema((b"name", b"SU\x06"), (b"at", schema((b"x", b"h"), (b"y", b"h"))
 
 
 def floor_rows():
-    return b"[$" + FIELDS + b"#U" + bytes([ROOMS]) + b"".join(column(room) for room in range(ROOMS) for column in COLUMNS)
+    return b"[$" + FIELDS + b"#U" + bytes([len(ROOMS)]) + b"".join(column(room) for room in ROOMS for column in COLUMNS)
 
 
 def floor_columns():
-    return b"{$" + FIELDS + b"#U" + bytes([ROOMS]) + b"".join(column(room) for column in COLUMNS for room in range(ROOMS))
+    return b"{$" + FIELDS + b"#U" + bytes([len(ROOMS)]) + b"".join(column(room) for column in COLUMNS for room in ROOMS)
 
 
 def place(name, x, y, beds):
@@ -99,7 +100,7 @@ def extensions():
     opaque = b"[" + extension(0, b"") + extension(255, b"\x07") + b"N" + extension(256, b"ward 3", b"u") + extension(4_294_967_295, b"E", b"m") + b"NN]"
     wide = b"[" + extension(5, NAMED[4], b"L") + extension(4096, bytes(range(40)), b"u", b"m") + b"]"
     beds = b"[$" + schema((b"bed", b"U"), (b"alert", b"T")) + b"#U\x02\x01F\x02T"
-    reading = b"{" + key(b"at") + extension(1, time(3)) + key(b"temperature") + b"d" + temperature(3) + b"}"
+    reading = b"{" + key(b"at") + extension(1, time(4)) + key(b"temperature") + b"d" + temperature(4) + b"}"
     members = [
         (b"controller", extension(10, UUID)), (b"sent", extension(2, NAMED[1])), (b"named", named), (b"opaque", opaque), (b"wide", wide),
         (b"beds", beds), (b"readings", b"[" + reading + b"]"),
