@@ -7,16 +7,23 @@
 
 enum { PANEL_ROOMS = 40, PANEL_WIDTH = 48 };
 
-/* What stands on the panel: a head line, and a line for each room whose alert mark is set. */
+/* What stands on the panel: a head line, and a line for each room whose alert mark is set. Rooms are numbered 1 to 40; room n is
+ * record n - 1 of the message. */
 struct panel {
     char head[PANEL_WIDTH];
     char lines[PANEL_ROOMS][PANEL_WIDTH];
     size_t count;
 };
 
-/* Shows a floor's message: one table with the leaves temperature (`I`, tenths of a degree), alert mark (`T`) and time (`m`, seconds of
- * the day), and a record for each room, by rows or by columns. A message that is refused, or that has no such table, is shown as
- * refused, and nothing that stood on the panel before is left. */
+/* Shows a floor's message. It is one table, by rows or by columns, of forty records that are counted, not put in dimensions, with the
+ * fields
+ *
+ *   temperature   `I`, tenths of a degree, or `d`, degrees: from -40 to 80 degrees
+ *   alert         `T`
+ *   time          `m`, seconds, since midnight or since 1970: the time of day is shown
+ *
+ * by these names, in this order, and no others. A message that is refused is shown by number and place. Any other message that is
+ * accepted is shown by what keeps it from being a floor's. In both cases no line is left of what stood on the panel before. */
 void panel_show(struct panel *panel, const uint8_t *message, size_t length);
 
 #endif
