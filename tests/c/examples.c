@@ -1,4 +1,4 @@
-/* The checked examples of document 01, by both editions. */
+/* The checked examples of document 01, by both editions, and the records whose size it gives. */
 #include "lent.h"
 #include "tanklefrost.h"
 
@@ -63,6 +63,97 @@ static int single_of(const char *hex, uint64_t bits)
     return v.number == 0 && v.kind == 1 && v.value_case == TANKLEFROST_SINGLE && v.bits == bits;
 }
 
+/* The record of x, y (`d` or `D`), id `m`, active `T`: its leaves' rows, and the bits that record r has for each. */
+enum { PARTICLES = 3, X_ROW = 3, ID = 2, ACTIVE = 3, PARTICLE_LEAVES = 4 };
+
+static uint64_t particle(char mark, size_t leaf, size_t r)
+{
+    static const uint32_t singles[2][PARTICLES] = {{0x3F000000, 0x3FC00000, 0x40200000}, {0xBE800000, 0xBFA00000, 0xC0100000}};
+    static const uint64_t doubles[2][PARTICLES] = {
+        {0x3FE0000000000000, 0x3FF8000000000000, 0x4004000000000000}, {0xBFD0000000000000, 0xBFF4000000000000, 0xC002000000000000}};
+    if (leaf == ID) {
+        return 0x01020304 * (r + 1);
+    }
+    if (leaf == ACTIVE) {
+        return r % 2;
+    }
+    return mark == 'd' ? singles[leaf][r] : doubles[leaf][r];
+}
+
+static void put_particle(char mark, size_t leaf, size_t r, size_t width)
+{
+    uint64_t bits = particle(mark, leaf, r);
+    if (leaf == ACTIVE) {
+        bits = bits == 1 ? 'T' : 'F';
+    }
+    for (; width != 0; width--, bits >>= 8) {
+        put_byte(&m, (unsigned char)bits);
+    }
+}
+
+/* Three such records, by rows (`[`) or by columns (`{`). */
+static void particles(char opening, char mark, const size_t *widths)
+{
+    char head[64];
+    size_t i, leaf, r;
+    m.size = 0;
+    snprintf(head, sizeof head, "%c${U\001x%cU\001y%cU\002idmU\006activeT}#U\003", opening, mark, mark);
+    for (i = 0; head[i] != 0; i++) {
+        put_byte(&m, (unsigned char)head[i]);
+    }
+    for (i = 0; i < PARTICLES * PARTICLE_LEAVES; i++) {
+        leaf = opening == '[' ? i % PARTICLE_LEAVES : i / PARTICLES;
+        r = opening == '[' ? i / PARTICLE_LEAVES : i % PARTICLES;
+        put_particle(mark, leaf, r, widths[leaf]);
+    }
+}
+
+/* Their slots by both calls, P + rR + o by rows and P + Nf + rw + (o - f) by columns, and the values there. */
+static void particle_slots(char opening, char mark, const size_t *widths, size_t size)
+{
+    uint32_t x_case = mark == 'd' ? TANKLEFROST_SINGLE : TANKLEFROST_DOUBLE;
+    uint32_t cases[PARTICLE_LEAVES] = {x_case, x_case, TANKLEFROST_UNSIGNED, TANKLEFROST_BOOLEAN};
+    size_t words = sizeof rows / sizeof *rows, begin = rows[3], offset = 0, leaf, r;
+    for (leaf = 0; leaf < PARTICLE_LEAVES; leaf++) {
+        size_t row = X_ROW + 2 * leaf;
+        CHECK(rows[8 * row] == 9 && rows[8 * row + 3] == offset && rows[8 * row + 4] == widths[leaf]);
+        for (r = 0; r < PARTICLES; r++) {
+            size_t first = begin + (opening == '[' ? r * size + offset : PARTICLES * offset + r * widths[leaf]);
+            struct tanklefrost_place p = tanklefrost_table_slot(rows, words, (uint32_t)m.size, 0, row, &r, 1);
+            struct tanklefrost_scalar v = tanklefrost_value_in_table(m.at, m.size, rows, words, 0, row, &r, 1);
+            uint64_t slot = tanklefrost_slot(m.at, m.size, 0, leaf, r);
+            CHECK(p.number == 0 && p.first == first && p.width == widths[leaf]);
+            CHECK(slot == ((uint64_t)widths[leaf] << 32 | (uint64_t)first << 8));
+            CHECK(v.number == 0 && v.kind == 9 && v.value_case == cases[leaf] && v.bits == particle(mark, leaf, r));
+        }
+        offset += widths[leaf];
+    }
+    CHECK(offset == size);
+}
+
+/* "a record of x `d`, y `d`, id `m`, active `T` is 13 bytes, and 21 with `D`", in both layouts and by both editions; one byte less or
+ * more than so many records is refused. */
+static void records_of_13_and_21(void)
+{
+    static const char openings[2] = {'[', '{'}, marks[2] = {'d', 'D'};
+    static const size_t sizes[2] = {13, 21};
+    uint32_t edition;
+    size_t i;
+    for (i = 0; i < 8; i++) {
+        char opening = openings[i % 2], mark = marks[i / 2 % 2];
+        size_t size = sizes[i / 2 % 2], x_width = mark == 'd' ? 4 : 8, widths[PARTICLE_LEAVES] = {x_width, x_width, 4, 1};
+        edition = i < 4 ? TANKLEFROST_OLD_EDITION : TANKLEFROST_NEW_EDITION;
+        particles(opening, mark, widths);
+        CHECK(is_reading(tanklefrost_read(edition, m.at, m.size, rows, sizeof rows / sizeof *rows), 0, 0, 10));
+        CHECK(rows[1] == (uint32_t)opening && rows[4] == PARTICLES * size && rows[3] + rows[4] == m.size && rows[5] == PARTICLES);
+        CHECK(rows[8] == 10 && rows[8 + 4] == size && rows[8 + 5] == PARTICLE_LEAVES);
+        particle_slots(opening, mark, widths, size);
+        CHECK(tanklefrost_slot(m.at, m.size - 1, 0, 0, 0) == TANKLEFROST_ENDS_TOO_EARLY);
+        put_byte(&m, 0);
+        CHECK(tanklefrost_slot(m.at, m.size, 0, 0, 0) == TANKLEFROST_BYTES_AFTER);
+    }
+}
+
 int main(void)
 {
     static const uint32_t null_row[] = {1, 90, 0, 1, 0, 0, 1, 0};
@@ -118,6 +209,7 @@ int main(void)
     CHECK(answers("44000000000000F03F", 0, 0));
     v = tanklefrost_value_at_row(m.at, m.size, rows, sizeof rows / sizeof *rows, 0);
     CHECK(v.number == 0 && v.value_case == TANKLEFROST_DOUBLE && tanklefrost_double(v.bits) == 1.0);
+    records_of_13_and_21();
     free(m.at);
     return report("examples");
 }
