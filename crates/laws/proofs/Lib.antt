@@ -13,4 +13,5 @@ pub mod Related
 pub mod Keeps
 pub mod Added
 pub mod Faults
+pub mod OtherRows
 pub mod Reading
