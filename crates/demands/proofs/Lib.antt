@@ -1,3 +1,10 @@
+pub mod Rewrites
+pub mod RowsNeeded
+pub mod RuleOfThumb
+pub mod Demand1
+pub mod Refused
+pub mod Demand2
+pub mod Example12
 pub mod Demand3
 pub mod Room17
 pub mod Editions
