@@ -39,20 +39,25 @@ pub fn record(buffer: &mut [u8], pen: Pen, mark: u8, number: u64) -> Pen {
     put_number(buffer, after, number, Mark(mark).width())
 }
 
-// Writes an integer that is refused: negative, or over the limit by little or by much.
+// A number that is refused under one of the marks of `wrong`: negative, or over the limit by little or by much.
+fn wrong_number(choice: u32) -> u64 {
+    match choice {
+        0 => 0xFF,
+        1 => 0x8000,
+        2 => 0xFFFF_FF00,
+        3 => 0x8000_0000_0000_0000,
+        4 => 1_048_577,
+        5 => 0x8000_0001,
+        6 => 0x1_0000_0002,
+        _ => 0xFFFF_FFFF_FFFF_FFFE,
+    }
+}
+
+// Writes an integer that is refused.
 fn wrong(buffer: &mut [u8], pen: Pen) -> Pen {
     let drawn = pen.draw(8);
-    let choice = drawn.value;
-    match choice {
-        0 => record(buffer, drawn, b'i', 0xFF),
-        1 => record(buffer, drawn, b'I', 0x8000),
-        2 => record(buffer, drawn, b'l', 0xFFFF_FF00),
-        3 => record(buffer, drawn, b'L', 0x8000_0000_0000_0000),
-        4 => record(buffer, drawn, b'l', 1_048_577),
-        5 => record(buffer, drawn, b'm', 0x8000_0001),
-        6 => record(buffer, drawn, b'L', 0x1_0000_0002),
-        _ => record(buffer, drawn, b'M', 0xFFFF_FFFF_FFFF_FFFE),
-    }
+    let mark = letter(b"iIlLlmLM", drawn.value);
+    record(buffer, drawn, mark, wrong_number(drawn.value))
 }
 
 // Writes an integer record.

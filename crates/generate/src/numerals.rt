@@ -1,7 +1,11 @@
 // High-precision numbers: forms in which `n` stands for a digit from 1 to 9, and `d` for any.
 use crate::integers::integer;
+use crate::numbers::less;
 use crate::numbers::low;
+use crate::numbers::more;
+use crate::numbers::times;
 use crate::pen::Pen;
+use crate::pen::letter;
 
 // The byte that a letter of a form stands for.
 fn digit(pen: Pen, letter: u8) -> Pen {
@@ -15,72 +19,49 @@ fn digit(pen: Pen, letter: u8) -> Pen {
     drawn
 }
 
-// Writes the letters of a form.
-fn letters(buffer: &mut [u8], pen: Pen, form: &[u8]) -> Pen {
+// Writes so many letters of a list of forms, from one on.
+fn letters(buffer: &mut [u8], pen: Pen, forms: &[u8], from: u32, many: u32) -> Pen {
     let mut after = pen;
-    let mut i: usize = 0;
-    while i < form.len() {
-        after = digit(after, form[i]);
+    let mut at = from;
+    let mut left = many;
+    while 0 < left {
+        after = digit(after, letter(forms, at));
         after = after.put(buffer, low(after.value));
-        i += 1;
+        at = more(at, 1);
+        left -= 1;
     }
     after
 }
 
-// A form's length.
-fn size(form: &[u8]) -> u32 {
-    if form.len() < 256 {
-        return form.len() as u32;
-    }
-    0
-}
-
-// Writes the length of a number in a form, and the number.
-fn fill(buffer: &mut [u8], pen: Pen, form: &[u8]) -> Pen {
-    let after = integer(buffer, pen, size(form));
-    letters(buffer, after, form)
+// Writes the length of a number in one of the forms, and the number. Each form takes ten bytes of the list: its length, its letters,
+// and blanks.
+fn fill(buffer: &mut [u8], pen: Pen, forms: &[u8], choice: u32) -> Pen {
+    let start = times(choice, 10);
+    let many = less(letter(forms, start) as u32, 48);
+    let after = integer(buffer, pen, many);
+    letters(buffer, after, forms, more(start, 1), many)
 }
 
 // Writes a JSON number.
 fn right(buffer: &mut [u8], pen: Pen) -> Pen {
     let drawn = pen.draw(12);
-    let choice = drawn.value;
-    match choice {
-        0 => fill(buffer, drawn, b"0"),
-        1 => fill(buffer, drawn, b"-0"),
-        2 => fill(buffer, drawn, b"n"),
-        3 => fill(buffer, drawn, b"-ndd"),
-        4 => fill(buffer, drawn, b"0.d"),
-        5 => fill(buffer, drawn, b"nd.ddd"),
-        6 => fill(buffer, drawn, b"ne0"),
-        7 => fill(buffer, drawn, b"0E+dd"),
-        8 => fill(buffer, drawn, b"-nde-d"),
-        9 => fill(buffer, drawn, b"-0.0e+0n"),
-        10 => fill(buffer, drawn, b"nd.dEddd"),
-        _ => fill(buffer, drawn, b"n.d"),
-    }
+    fill(
+        buffer,
+        drawn,
+        b"10        2-0       1n        4-ndd     30.d      6nd.ddd   3ne0      50E+dd    6-nde-d   8-0.0e+0n 8nd.dEddd 3n.d      ",
+        drawn.value,
+    )
 }
 
 // Writes what is nearly a JSON number.
 fn wrong(buffer: &mut [u8], pen: Pen) -> Pen {
     let drawn = pen.draw(14);
-    let choice = drawn.value;
-    match choice {
-        0 => fill(buffer, drawn, b""),
-        1 => fill(buffer, drawn, b"-"),
-        2 => fill(buffer, drawn, b"0d"),
-        3 => fill(buffer, drawn, b"-0n"),
-        4 => fill(buffer, drawn, b"n."),
-        5 => fill(buffer, drawn, b".d"),
-        6 => fill(buffer, drawn, b"ne"),
-        7 => fill(buffer, drawn, b"nE+"),
-        8 => fill(buffer, drawn, b"n.e1"),
-        9 => fill(buffer, drawn, b"+n"),
-        10 => fill(buffer, drawn, b"n.dd.d"),
-        11 => fill(buffer, drawn, b"-n.dd+Edd"),
-        12 => fill(buffer, drawn, b"ne1.0"),
-        _ => fill(buffer, drawn, b"nx"),
-    }
+    fill(
+        buffer,
+        drawn,
+        b"0         1-        20d       3-0n      2n.       2.d       2ne       3nE+      4n.e1     2+n       6n.dd.d   9-n.dd+Edd5ne1.0    2nx       ",
+        drawn.value,
+    )
 }
 
 // Writes a high-precision number.

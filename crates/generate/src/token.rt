@@ -11,12 +11,14 @@ use format::marks::Mark;
 // Writes no `N`, or a few.
 pub fn noops(buffer: &mut [u8], pen: Pen) -> Pen {
     let drawn = pen.draw(24);
-    let choice = drawn.value;
-    match choice {
-        0 => drawn.put(buffer, b'N').put(buffer, b'N'),
-        1 | 2 => drawn.put(buffer, b'N'),
-        _ => drawn,
+    if 2 < drawn.value {
+        return drawn;
     }
+    let one = drawn.put(buffer, b'N');
+    if 0 < drawn.value {
+        return one;
+    }
+    one.put(buffer, b'N')
 }
 
 // The bits that are drawn for a number: few, so that the small ones come often; or all.

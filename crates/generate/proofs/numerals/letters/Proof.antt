@@ -1,16 +1,15 @@
--- `numerals::letters`: a loop over the letters of the form. Assumes nothing.
+-- `numerals::letters`: a loop over letters. Assumes nothing.
 use borrow.Author.Needs.{needs}
-use Prim.Native.Nat.{_-_}
 use lib.ListN.{length}
 use mathlib.Core.Path.{_≡_}
 use Rattle.generate.proofs.numerals.letters.Statement.{statement}
 use Rattle.generate.proofs.numerals.letters.Tie as tie
 
 abbrev Inv-loop : tie.InvT-loop
-Inv-loop buffer₀ form after₀ i₀ buffer after i = length buffer ≡ length buffer₀
+Inv-loop buffer₀ forms from many after₀ at₀ left₀ buffer after at left = length buffer ≡ length buffer₀
 
 abbrev μ-loop : tie.MeasureT-loop
-μ-loop buffer₀ form after₀ i₀ buffer after i = length form - i
+μ-loop buffer₀ forms from many after₀ at₀ left₀ buffer after at left = left
 
 pub letters-spec : {M : Type 1} → statement M
 letters-spec =
@@ -19,7 +18,8 @@ letters-spec =
     Inv-loop
     μ-loop
     (λ c. search needs)
-    (λ c. search needs)
+    (λ c κs. search needs)
+    (λ c κs. search needs)
     (λ c κs. search needs)
     (λ c κs. search needs)
     (λ c κs. search needs)
