@@ -1,10 +1,10 @@
 // What is asked of the calls: slots, values and texts by address.
-use crate::numbers::least;
 use crate::shape;
 use addresses::calls::packed_slot;
 use addresses::calls::table_slot;
 use format::answers::Located;
 use format::answers::Valued;
+use numbers::least;
 use slots::text::number_in_table;
 use slots::value::value_in_packed;
 use slots::value::value_in_table;

@@ -1,10 +1,10 @@
 // The shape of a packed array or a table, by the rows that the reader stored.
-use crate::numbers::least;
-use crate::numbers::less;
-use crate::numbers::quotient;
-use crate::numbers::remainder;
-use crate::numbers::set_index;
-use crate::numbers::sum;
+use numbers::least;
+use numbers::less;
+use numbers::quotient;
+use numbers::remainder;
+use numbers::set_index;
+use numbers::sum;
 use rows::word;
 ghost use mathlib.Core.Path.{_≡_};
 ghost use lib.ListN.{length};

@@ -1,14 +1,14 @@
 // The files that the command line names.
-use crate::arguments;
-use crate::arguments::Asked;
-use crate::help;
 use crate::messages;
-use crate::words::is_input;
-use grid::numbers::least;
-use grid::numbers::sum;
 use libc::STDIN_FILENO;
-use show::block::flush;
+use numbers::least;
+use numbers::sum;
+use options::arguments;
+use options::arguments::Asked;
+use options::help;
+use options::words::is_input;
 use show::quoted::plain;
+use wording::block::flush;
 
 // What was read: so many bytes, and whether a read failed after them.
 struct Bytes {
@@ -93,30 +93,8 @@ fn input(asked: Asked, message: &mut [u8], rows: &mut [u32], house: &mut [u8], o
     );
 }
 
-// The file of this name.
-fn named(
-    name: &[u8],
-    asked: Asked,
-    message: &mut [u8],
-    rows: &mut [u32],
-    house: &mut [u8],
-    out: &mut [u8],
-) {
-    if is_input(name) {
-        input(asked, message, rows, house, out);
-        return;
-    }
-    let fd = os::open_read(name);
-    if fd < 0 {
-        fail(name, out);
-        return;
-    }
-    message_of(name, fd, asked, message, rows, house, out);
-    libc::close(fd);
-}
-
 // The file of argument i, if it is a file's.
-fn argument(
+fn file(
     i: usize,
     is_file: bool,
     asked: Asked,
@@ -130,24 +108,17 @@ fn argument(
     }
     let mut name = io::buffer();
     let n = os::arg(i, &mut name);
-    named(&name[..n], asked, message, rows, house, out);
-}
-
-// Argument i of so many: the file, if it is a file's. Answers what is asked for up to it.
-fn next(
-    i: usize,
-    count: usize,
-    so_far: Asked,
-    asked: Asked,
-    message: &mut [u8],
-    rows: &mut [u32],
-    house: &mut [u8],
-    out: &mut [u8],
-) -> Asked {
-    let after = arguments::with(so_far, i, count);
-    let is_file = so_far.files < after.files;
-    argument(i, is_file, asked, message, rows, house, out);
-    after
+    if is_input(&name[..n]) {
+        input(asked, message, rows, house, out);
+        return;
+    }
+    let fd = os::open_read(&name[..n]);
+    if fd < 0 {
+        fail(&name[..n], out);
+        return;
+    }
+    message_of(&name[..n], fd, asked, message, rows, house, out);
+    libc::close(fd);
 }
 
 // Each file of so many arguments.
@@ -162,22 +133,32 @@ fn each(
     let mut so_far = arguments::none();
     let mut i: usize = 1;
     while i < count {
-        so_far = next(i, count, so_far, asked, message, rows, house, out);
+        let before = so_far.files;
+        so_far = arguments::with(so_far, i, count);
+        file(i, before < so_far.files, asked, message, rows, house, out);
         i += 1;
     }
+}
+
+// Whether no file is looked at: an argument is bad, which is said, or help is asked for, which is shown.
+fn is_answered(asked: Asked, out: &mut [u8]) -> bool {
+    if asked.bad != 0 {
+        help::bad(out, asked.bad, asked.why);
+        return true;
+    }
+    if asked.help {
+        let end = help::all(out, 0);
+        flush(out, end);
+        return true;
+    }
+    false
 }
 
 // Each file, or standard input where none is named; or help.
 pub fn all(message: &mut [u8], rows: &mut [u32], house: &mut [u8], out: &mut [u8]) {
     let count = os::arg_count();
     let asked = arguments::all(count);
-    if asked.bad != 0 {
-        help::bad(out, asked.bad, asked.why);
-        return;
-    }
-    if asked.help {
-        let end = help::all(out, 0);
-        flush(out, end);
+    if is_answered(asked, out) {
         return;
     }
     if asked.files == 0 {

@@ -1,131 +1,28 @@
-// What is shown of a message.
-use crate::address;
-use crate::arguments::Asked;
-use crate::arguments::is_plain;
-use crate::arguments::read_by;
-use crate::bytes;
-use crate::dump;
-use crate::held;
-use crate::help::errors;
-use crate::names;
-use crate::payloads;
-use crate::tree;
-use crate::verdict;
+// A message: shown, or written in house form.
+use crate::buffers::ROWS;
+use describe::verdict;
+use describe::verdict::Refusal;
 use format::answers::Answer;
-use grid::numbers::least;
 use libc::STDOUT_FILENO;
+use numbers::least;
+use options::arguments::Asked;
+use options::arguments::read_by;
+use options::help::errors;
 use reader::message::read_front;
+use reader::message::rows_needed;
 use rewriter::message::rewrite;
 use show::quoted::plain;
-
-// The rows, if asked for.
-fn rows_view(
-    message: &[u8],
-    rows: &[u32],
-    needed: usize,
-    asked: Asked,
-    out: &mut [u8],
-    at: usize,
-) -> usize {
-    if asked.rows || is_plain(asked) {
-        return tree::some(message, rows, 0, needed, out, at);
-    }
-    at
-}
-
-// The slots, if asked for.
-fn slots_view(
-    message: &[u8],
-    rows: &[u32],
-    needed: usize,
-    asked: Asked,
-    out: &mut [u8],
-    at: usize,
-) -> usize {
-    if asked.slots {
-        return payloads::every(message, rows, needed, out, at);
-    }
-    at
-}
-
-// The bytes, if asked for.
-fn bytes_view(
-    message: &[u8],
-    rows: &[u32],
-    needed: usize,
-    asked: Asked,
-    out: &mut [u8],
-    at: usize,
-) -> usize {
-    if asked.hex {
-        return bytes::all(message, rows, held::before(rows, needed), out, at);
-    }
-    at
-}
-
-// One address, if asked for.
-fn address_view(message: &[u8], rows: &[u32], asked: Asked, out: &mut [u8], at: usize) -> usize {
-    if asked.address != 0 {
-        return address::argument(message, rows, asked.address, asked.color, out, at);
-    }
-    at
-}
-
-// A path of names, if asked for.
-fn name_view(message: &[u8], rows: &mut [u32], asked: Asked, out: &mut [u8], at: usize) -> usize {
-    if asked.name != 0 {
-        return names::argument(message, rows, asked.name, out, at);
-    }
-    at
-}
-
-// An accepted message, which has so many rows; the table holds the first of them.
-fn accepted(
-    message: &[u8],
-    rows: &mut [u32],
-    needed: usize,
-    asked: Asked,
-    out: &mut [u8],
-    at: usize,
-) -> usize {
-    let told = verdict::accepted(needed, held::before(rows, needed), asked.color, out, at);
-    let first = rows_view(message, rows, needed, asked, out, told);
-    let second = slots_view(message, rows, needed, asked, out, first);
-    let third = bytes_view(message, rows, needed, asked, out, second);
-    let fourth = address_view(message, rows, asked, out, third);
-    name_view(message, rows, asked, out, fourth)
-}
-
-// A refused message; all of its bytes, if asked for.
-fn refused(
-    message: &[u8],
-    refusal: u32,
-    place: usize,
-    asked: Asked,
-    out: &mut [u8],
-    at: usize,
-) -> usize {
-    let told = verdict::refused(
-        message,
-        read_by(asked),
-        refusal,
-        place,
-        asked.color,
-        out,
-        at,
-    );
-    if asked.hex {
-        return dump::lines(out, told, message, 0, message.len());
-    }
-    told
-}
+use views::accepted;
 
 // A message, as it is asked for.
 pub fn shown(message: &[u8], rows: &mut [u32], asked: Asked, out: &mut [u8], at: usize) -> usize {
     let sized = verdict::size(message, out, at);
     match read_front(read_by(asked), message, rows) {
-        Answer::Done(needed) => accepted(message, rows, needed, asked, out, sized),
-        Answer::Refused(refusal, place) => refused(message, refusal, place, asked, out, sized),
+        Answer::Done(needed) => accepted::shown(message, rows, needed, asked, out, sized),
+        Answer::Refused(number, place) => {
+            let r = verdict::of(asked, number, place);
+            verdict::shown(message, r, asked.hex, out, sized)
+        }
     }
 }
 
@@ -137,7 +34,26 @@ fn write_house(house: &[u8], written: usize) {
     }
 }
 
-// A message in house form; a refusal goes to standard error, under the message's name.
+// Why a message is not rewritten; for want of rows, what it is with rows enough.
+fn reason(message: &[u8], r: Refusal, out: &mut [u8], at: usize) -> usize {
+    let edition = r.edition;
+    let told = verdict::refused(message, r, out, at);
+    if !verdict::lacks_rows(r) {
+        return told;
+    }
+    let answer = rows_needed(edition, message);
+    verdict::with_more(message, ROWS, answer, edition, out, told)
+}
+
+// Says on standard error, under the message's name, why it is not rewritten.
+fn not_rewritten(name: &[u8], message: &[u8], r: Refusal, out: &mut [u8]) {
+    let named = plain(out, 0, name);
+    let sized = verdict::size(message, out, named);
+    let end = reason(message, r, out, sized);
+    errors(out, end);
+}
+
+// A message in house form.
 pub fn rewritten(
     name: &[u8],
     message: &[u8],
@@ -146,22 +62,10 @@ pub fn rewritten(
     asked: Asked,
     out: &mut [u8],
 ) {
-    let edition = read_by(asked);
-    match rewrite(edition, message, rows, house) {
+    match rewrite(read_by(asked), message, rows, house) {
         Answer::Done(written) => write_house(house, written),
-        Answer::Refused(refusal, place) => {
-            let named = plain(out, 0, name);
-            let sized = verdict::size(message, out, named);
-            let end = verdict::not_rewritten(
-                message,
-                edition,
-                refusal,
-                place,
-                asked.color,
-                out,
-                sized,
-            );
-            errors(out, end);
+        Answer::Refused(number, place) => {
+            not_rewritten(name, message, verdict::of(asked, number, place), out);
         }
     }
 }

@@ -1,10 +1,14 @@
 // Floats, exactly: in decimal where that takes at most 60 digits after the point and 64 bits before it, else as a whole number
 // times a power of two.
-use crate::block::byte;
-use crate::block::text;
-use crate::numbers::decimal;
-use crate::numbers::hex;
-use crate::numbers::number;
+use numbers::less;
+use numbers::sum;
+use wording::block::byte;
+use wording::block::repeated;
+use wording::digits::decimal;
+use wording::digits::hex;
+use wording::phrases::put;
+use wording::phrases::with;
+use wording::tables::line;
 
 // A float that is a whole number times two to the power of `scale` less 1,075.
 struct Binary {
@@ -104,16 +108,14 @@ fn pointed(out: &mut [u8], at: usize, whole: u64, unit: u64) -> usize {
     digits(out, point, remainder(whole, unit), unit)
 }
 
-// A whole number times a power of two.
-fn scaled(out: &mut [u8], at: usize, b: Binary) -> usize {
-    let whole = decimal(out, at, b.whole);
-    let scale = b.scale;
-    if WHOLE <= scale {
-        let times = text(out, whole, b" x 2^");
-        return number(out, times, scale - WHOLE);
-    }
-    let times = text(out, whole, b" x 2^-");
-    number(out, times, WHOLE - scale)
+// A whole number times a power of two, by its phrase and the power.
+fn scaled(out: &mut [u8], at: usize, whole: u64, line: usize, power: usize) -> usize {
+    put(
+        out,
+        at,
+        b"# x 2^&\n# x 2^-&",
+        with(line, whole as usize, power, 0),
+    )
 }
 
 // A float that is a whole number: in decimal where it has at most 64 bits.
@@ -122,85 +124,112 @@ fn large(out: &mut [u8], at: usize, from: Binary) -> usize {
     if b.scale == WHOLE {
         return decimal(out, at, b.whole);
     }
-    scaled(out, at, from)
+    scaled(out, at, from.whole, 0, less(from.scale, WHOLE))
+}
+
+// A float with digits after the point, or with a negative power of two.
+fn small(out: &mut [u8], at: usize, b: Binary) -> usize {
+    let places = less(WHOLE, b.scale);
+    if places <= 60 {
+        return pointed(out, at, b.whole, power(places));
+    }
+    scaled(out, at, b.whole, 1, places)
 }
 
 // A float in decimal, or with a power of two.
 fn exact(out: &mut [u8], at: usize, from: Binary) -> usize {
     let b = reduced(from);
-    let whole = b.whole;
-    let scale = b.scale;
-    if whole == 0 {
+    if b.whole == 0 {
         return byte(out, at, b'0');
     }
-    if WHOLE <= scale {
+    if WHOLE <= b.scale {
         return large(out, at, b);
     }
-    if WHOLE - scale <= 60 {
-        return pointed(out, at, whole, power(WHOLE - scale));
-    }
-    scaled(out, at, b)
+    small(out, at, b)
 }
 
-// A float by its parts: whether it is negative, its exponent's bits, the largest of these, and its fraction. A fraction has one
-// more bit before it, `hidden`, unless its exponent's bits are 0; `base` is the scale of the exponent's bits 0.
-fn parts(
-    out: &mut [u8],
-    at: usize,
+// A float by its parts: 1 where it is negative, its exponent's bits, the largest of these, and its fraction. A fraction has one more
+// bit before it, `hidden`, unless its exponent's bits are 0; `base` is the scale of the exponent's bits 0.
+struct Parts {
+    negative: usize,
     exponent: usize,
     largest: usize,
     fraction: u64,
     hidden: u64,
     base: usize,
-) -> usize {
-    if exponent == largest {
-        if fraction == 0 {
-            return text(out, at, b"infinity");
-        }
-        return text(out, at, b"NaN");
-    }
-    if exponent == 0 {
-        let small = Binary {
-            whole: fraction,
-            scale: grid::numbers::sum(base, 1),
+}
+
+// The precisions, by their lines below.
+pub const SINGLE: usize = 0;
+
+pub const DOUBLE: usize = 1;
+
+// The parts of a float by its bits.
+fn split(n: u64, precision: usize) -> Parts {
+    if precision == SINGLE {
+        return Parts {
+            negative: (n / 0x8000_0000 % 2) as usize,
+            exponent: (n / 0x80_0000 % 0x100) as usize,
+            largest: 0xFF,
+            fraction: n % 0x80_0000,
+            hidden: 0x80_0000,
+            base: 925,
         };
-        return exact(out, at, small);
     }
-    let other = Binary {
-        whole: std::num::wrapping_add_u64(fraction, hidden),
-        scale: grid::numbers::sum(base, exponent),
-    };
-    exact(out, at, other)
-}
-
-// A minus where there is one.
-fn sign(out: &mut [u8], at: usize, negative: u64) -> usize {
-    if negative == 0 {
-        return at;
+    Parts {
+        negative: (n / 0x8000_0000_0000_0000) as usize,
+        exponent: (n / 0x10_0000_0000_0000 % 0x800) as usize,
+        largest: 0x7FF,
+        fraction: n % 0x10_0000_0000_0000,
+        hidden: 0x10_0000_0000_0000,
+        base: 0,
     }
-    byte(out, at, b'-')
 }
 
-// The bits of a float, in hex, after a name.
-fn bits(out: &mut [u8], at: usize, name: &[u8], n: u64, width: usize) -> usize {
-    let opened = text(out, at, name);
-    let shown = hex(out, opened, n, width);
-    byte(out, shown, b')')
+// The whole number and its scale.
+fn scaled_of(p: Parts) -> Binary {
+    if p.exponent == 0 {
+        return Binary {
+            whole: p.fraction,
+            scale: sum(p.base, 1),
+        };
+    }
+    Binary {
+        whole: std::num::wrapping_add_u64(p.fraction, p.hidden),
+        scale: sum(p.base, p.exponent),
+    }
 }
 
-// A single by its bits.
-pub fn single(out: &mut [u8], at: usize, n: u64) -> usize {
-    let next = sign(out, at, n / 0x8000_0000 % 2);
-    let exponent = (n / 0x80_0000 % 0x100) as usize;
-    let shown = parts(out, next, exponent, 0xFF, n % 0x80_0000, 0x80_0000, 925);
-    bits(out, shown, b" (single ", n, 8)
+// The word for a float whose exponent's bits are the largest, by its line.
+fn word(fraction: u64) -> usize {
+    if fraction == 0 {
+        return 0;
+    }
+    1
 }
 
-// A double by its bits.
-pub fn double(out: &mut [u8], at: usize, n: u64) -> usize {
-    let next = sign(out, at, n / 0x8000_0000_0000_0000);
-    let exponent = (n / 0x10_0000_0000_0000 % 0x800) as usize;
-    let fraction = n % 0x10_0000_0000_0000;
-    let shown = parts(out, next, exponent, 0x7FF, fraction, 0x10_0000_0000_0000, 0);
-    bits(out, shown, b" (double ", n, 16)
+// A float with no sign.
+fn magnitude(out: &mut [u8], at: usize, p: Parts) -> usize {
+    if p.exponent == p.largest {
+        return line(out, at, b"infinity\nNaN", word(p.fraction));
+    }
+    exact(out, at, scaled_of(p))
+}
+
+// How many hex digits a float's bits have.
+fn width(precision: usize) -> usize {
+    if precision == SINGLE {
+        return 8;
+    }
+    16
+}
+
+// A float by its bits, and these in hex.
+pub fn float(out: &mut [u8], at: usize, n: u64, precision: usize) -> usize {
+    let p = split(n, precision);
+    let signed = repeated(out, at, b'-', p.negative);
+    let shown = magnitude(out, signed, p);
+    let opened = line(out, shown, b" (single \n (double ", precision);
+    let bits = hex(out, opened, n, width(precision));
+    byte(out, bits, b')')
 }

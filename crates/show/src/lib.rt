@@ -1,7 +1,5 @@
-// What the programs show to a person: numbers, names, texts and values, put into blocks of output.
-pub mod block;
+// What the programs show to a person: texts, values and bytes, put into blocks of output.
+pub mod dump;
 pub mod floats;
-pub mod names;
-pub mod numbers;
 pub mod quoted;
 pub mod scalars;

@@ -1,31 +1,40 @@
 // Texts and chars in quotes.
-use crate::block::byte;
-use crate::block::text;
-use crate::numbers::hex_byte;
-use crate::numbers::number;
-use grid::numbers::less;
-use grid::numbers::sum;
+use numbers::least;
+use numbers::sum;
+use wording::block::byte;
+use wording::block::text;
+use wording::digits::hex_byte;
+use wording::phrases::put;
+use wording::phrases::with;
 
 // The bytes of a text that are shown; of a longer one the length is shown too.
 const SHOWN: usize = 64;
 
-// A byte that is shown by its hex digits.
-fn escaped(out: &mut [u8], at: usize, b: u8) -> usize {
-    let next = text(out, at, b"\\x");
-    hex_byte(out, next, b)
+// The letter that stands after a backslash for a byte, an `x` before its hex digits; 0 for a byte that stands for itself.
+fn letter(b: u8) -> u8 {
+    match b {
+        b'"' => b'"',
+        b'\\' => b'\\',
+        b'\n' => b'n',
+        b'\r' => b'r',
+        b'\t' => b't',
+        0x20..=0x7E => 0,
+        _ => b'x',
+    }
 }
 
-// A byte that stands for itself, or is shown by its hex digits.
+// A byte that stands for itself, or for which a letter stands, or hex digits.
 fn ascii(out: &mut [u8], at: usize, b: u8) -> usize {
-    match b {
-        b'"' => text(out, at, b"\\\""),
-        b'\\' => text(out, at, b"\\\\"),
-        b'\n' => text(out, at, b"\\n"),
-        b'\r' => text(out, at, b"\\r"),
-        b'\t' => text(out, at, b"\\t"),
-        0x20..=0x7E => byte(out, at, b),
-        _ => escaped(out, at, b),
+    let l = letter(b);
+    if l == 0 {
+        return byte(out, at, b);
     }
+    let begun = byte(out, at, b'\\');
+    let next = byte(out, begun, l);
+    if l != b'x' {
+        return next;
+    }
+    hex_byte(out, next, b)
 }
 
 // Whether a byte continues a character.
@@ -58,30 +67,34 @@ fn is_triple(lead: u8, second: u8, third: u8) -> bool {
 
 // The bytes of the character at a place, if it is of several bytes and shown as it is; 1 for any other byte.
 fn length(message: &[u8], i: usize) -> usize {
-    let lead = grid::numbers::byte(message, i);
-    let second = grid::numbers::byte(message, sum(i, 1));
+    let lead = numbers::byte(message, i);
+    let second = numbers::byte(message, sum(i, 1));
     if is_pair(lead, second) {
         return 2;
     }
-    if is_triple(lead, second, grid::numbers::byte(message, sum(i, 2))) {
+    if is_triple(lead, second, numbers::byte(message, sum(i, 2))) {
         return 3;
     }
     1
 }
 
-// The character at a place.
-fn character(out: &mut [u8], at: usize, message: &[u8], i: usize) -> usize {
-    let b = grid::numbers::byte(message, i);
-    let n = length(message, i);
-    if n == 1 {
-        return ascii(out, at, b);
+// The bytes from a place on, before another, as they are.
+fn copied(out: &mut [u8], at: usize, message: &[u8], from: usize, end: usize) -> usize {
+    let mut place = at;
+    let mut i = from;
+    while i < end {
+        place = byte(out, place, numbers::byte(message, i));
+        i += 1;
     }
-    let second = byte(out, at, b);
-    let third = byte(out, second, grid::numbers::byte(message, sum(i, 1)));
-    if n == 2 {
-        return third;
+    place
+}
+
+// The character at a place, before another.
+fn character(out: &mut [u8], at: usize, message: &[u8], from: usize, end: usize) -> usize {
+    if end <= sum(from, 1) {
+        return ascii(out, at, numbers::byte(message, from));
     }
-    byte(out, third, grid::numbers::byte(message, sum(i, 2)))
+    copied(out, at, message, from, end)
 }
 
 // The characters from a place on, before another.
@@ -89,8 +102,8 @@ fn characters(out: &mut [u8], at: usize, message: &[u8], from: usize, end: usize
     let mut place = at;
     let mut i = from;
     while i < end {
-        place = character(out, place, message, i);
         let next = sum(i, length(message, i));
+        place = character(out, place, message, i, next);
         if next <= i {
             return place;
         }
@@ -107,22 +120,21 @@ pub fn plain(out: &mut [u8], at: usize, word: &[u8]) -> usize {
 // A text of the message, by its first byte and its length.
 pub fn quoted(out: &mut [u8], at: usize, message: &[u8], first: usize, width: usize) -> usize {
     let opened = byte(out, at, b'"');
+    let end = sum(first, least(width, SHOWN));
+    let shown = characters(out, opened, message, first, end);
+    let closed = byte(out, shown, b'"');
     if width <= SHOWN {
-        let shown = characters(out, opened, message, first, sum(first, width));
-        return byte(out, shown, b'"');
+        return closed;
     }
-    let shown = characters(out, opened, message, first, sum(first, SHOWN));
-    let closed = text(out, shown, b"\"... (");
-    let counted = number(out, closed, width);
-    text(out, counted, b" bytes)")
+    put(out, closed, b"... (# bytes)", with(0, width, 0, 0))
 }
 
 // A char.
 pub fn char(out: &mut [u8], at: usize, b: u8) -> usize {
-    if b == b'\'' {
-        return text(out, at, b"'\\''");
-    }
     let opened = byte(out, at, b'\'');
+    if b == b'\'' {
+        return text(out, opened, b"\\''");
+    }
     let shown = ascii(out, opened, b);
     byte(out, shown, b'\'')
 }

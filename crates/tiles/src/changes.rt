@@ -12,13 +12,13 @@ use format::answers::Edition;
 use format::marks::Mark;
 use generate::pen::Pen;
 use grid::ask;
-use grid::numbers::byte;
-use grid::numbers::least;
-use grid::numbers::low;
-use grid::numbers::narrow;
-use grid::numbers::set_byte;
-use grid::numbers::sum;
 use grid::shape;
+use numbers::byte;
+use numbers::least;
+use numbers::low;
+use numbers::narrow;
+use numbers::set_byte;
+use numbers::sum;
 
 // The changes that are tried for a message.
 const CHANGES: u64 = 4;

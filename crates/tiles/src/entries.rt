@@ -1,8 +1,8 @@
 // The list of a message's slots: five numbers are an entry.
-use grid::numbers::least;
-use grid::numbers::narrow;
-use grid::numbers::sum;
-use grid::numbers::wide;
+use numbers::least;
+use numbers::narrow;
+use numbers::sum;
+use numbers::wide;
 
 // The entries that the list has room for.
 pub const ENTRIES: usize = 1024;

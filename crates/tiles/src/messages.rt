@@ -7,8 +7,8 @@ use crate::tally::next;
 use crate::tally::none;
 use format::answers::Answer;
 use format::answers::Edition;
-use grid::numbers::least;
-use grid::numbers::narrow;
+use numbers::least;
+use numbers::narrow;
 
 // How many messages are made.
 const MESSAGES: u64 = 40_000;

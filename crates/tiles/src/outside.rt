@@ -6,11 +6,11 @@ use addresses::calls::packed_slot;
 use addresses::calls::table_slot;
 use format::answers::Located;
 use grid::ask::located;
-use grid::numbers::less;
-use grid::numbers::set_index;
-use grid::numbers::sum;
 use grid::shape;
 use grid::shape::names;
+use numbers::less;
+use numbers::set_index;
+use numbers::sum;
 
 // No such address, and rows that don't fit the request.
 const NOT_THERE: u32 = 10;

@@ -5,10 +5,10 @@ use crate::outside;
 use crate::tally::Tally;
 use crate::tally::next;
 use crate::tiling;
-use grid::numbers::least;
-use grid::numbers::less;
-use grid::numbers::sum;
 use grid::shape;
+use numbers::least;
+use numbers::less;
+use numbers::sum;
 use rows::word;
 
 // The slots that a packed array or a table may have to be gone through.

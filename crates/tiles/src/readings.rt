@@ -7,8 +7,8 @@ use crate::tally::Tally;
 use crate::tally::next;
 use format::marks::Mark;
 use grid::ask;
-use grid::numbers::least;
 use grid::shape;
+use numbers::least;
 
 // The refusal of a mark that doesn't fit.
 const DONT_FIT: u32 = 12;

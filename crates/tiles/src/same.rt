@@ -2,8 +2,8 @@
 use format::answers::Located;
 use format::answers::Value;
 use format::answers::Valued;
-use grid::numbers::byte;
-use grid::numbers::sum;
+use numbers::byte;
+use numbers::sum;
 
 // A value answer by numbers: the token's kind, the value's case, and what the case holds.
 struct Content {

@@ -4,8 +4,8 @@ use crate::tally::Tally;
 use crate::tally::next;
 use format::answers::Located;
 use grid::ask;
-use grid::numbers::sum;
 use grid::shape;
+use numbers::sum;
 
 // Asks for the slot of an entry, and stores what is answered; refused, or of another width than the rows say, is a fault.
 fn answer(rows: &[u32], size: u32, list: &mut [u32], entry: usize, t: Tally) -> Tally {
