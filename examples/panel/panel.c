@@ -122,8 +122,6 @@ static int has_fields(const struct message *m, char *head)
 
 static int has_rooms(const struct message *m, char *head)
 {
-    size_t record;
-    int tenths;
     if (word(m, TABLE_ROW, ORDER) != 0) {
         snprintf(head, PANEL_WIDTH, "not a floor: its rooms are in dimensions");
         return 0;
@@ -132,39 +130,46 @@ static int has_rooms(const struct message *m, char *head)
         snprintf(head, PANEL_WIDTH, "not a floor: its rooms are %u, not %u", (unsigned)word(m, TABLE_ROW, COUNT), (unsigned)PANEL_ROOMS);
         return 0;
     }
-    for (record = 0; record < PANEL_ROOMS; record++) {
-        if (!temperature(m, record, &tenths)) {
-            snprintf(head, PANEL_WIDTH, "not a floor: no temperature in room %u", (unsigned)record + 1);
-            return 0;
-        }
-    }
     return 1;
 }
 
-static void show_room(char *line, const struct message *m, size_t record)
+/* What is said of a room: its temperature, or that there is none. */
+static void say(char *words, size_t room, int there, int tenths, int alert)
+{
+    unsigned away = (unsigned)(tenths < 0 ? -tenths : tenths);
+    if (there) {
+        snprintf(words, room, "%s%u.%u degrees", tenths < 0 ? "-" : "", away / 10, away % 10);
+    } else {
+        snprintf(words, room, "no temperature%s", alert ? "" : ", no alert");
+    }
+}
+
+/* Shows a room whose alert mark is set, or whose temperature can't be right: nobody would hear that it is cold. Answers the mark. */
+static int show_room(struct panel *panel, const struct message *m, size_t record)
 {
     uint64_t time = value(m, TIME, record).bits;
-    int tenths = 0;
-    unsigned away;
-    temperature(m, record, &tenths);
-    away = (unsigned)(tenths < 0 ? -tenths : tenths);
-    snprintf(line, PANEL_WIDTH, "room %2u  %s%u.%u degrees  %02u:%02u:%02u", (unsigned)record + 1, tenths < 0 ? "-" : "", away / 10,
-             away % 10, (unsigned)(time / 3600 % 24), (unsigned)(time / 60 % 60), (unsigned)(time % 60));
+    int tenths = 0, there = temperature(m, record, &tenths), alert = value(m, ALERT, record).bits == 1;
+    char words[26];
+    if (alert || !there) {
+        say(words, sizeof words, there, tenths, alert);
+        snprintf(panel->lines[panel->count++], PANEL_WIDTH, "room %2u  %s  %02u:%02u:%02u", (unsigned)record + 1, words,
+                 (unsigned)(time / 3600 % 24), (unsigned)(time / 60 % 60), (unsigned)(time % 60));
+    }
+    return alert;
 }
 
 void panel_show(struct panel *panel, const uint8_t *message, size_t length)
 {
     struct message m = {message, length, {0}};
     size_t record;
+    unsigned alerts = 0;
 
     memset(panel, 0, sizeof *panel);
     if (!is_accepted(&m, panel->head) || !is_table(&m, panel->head) || !has_fields(&m, panel->head) || !has_rooms(&m, panel->head)) {
         return;
     }
     for (record = 0; record < PANEL_ROOMS; record++) {
-        if (value(&m, ALERT, record).bits == 1) {
-            show_room(panel->lines[panel->count++], &m, record);
-        }
+        alerts += (unsigned)show_room(panel, &m, record);
     }
-    snprintf(panel->head, PANEL_WIDTH, "%u rooms, alert marks: %u", (unsigned)PANEL_ROOMS, (unsigned)panel->count);
+    snprintf(panel->head, PANEL_WIDTH, "%u rooms, alert marks: %u", (unsigned)PANEL_ROOMS, alerts);
 }

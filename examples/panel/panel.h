@@ -7,8 +7,8 @@
 
 enum { PANEL_ROOMS = 40, PANEL_WIDTH = 48 };
 
-/* What stands on the panel: a head line, and a line for each room whose alert mark is set. Rooms are numbered 1 to 40; room n is
- * record n - 1 of the message. */
+/* What stands on the panel: a head line, and a line for each room whose alert mark is set or that has no temperature. Rooms are
+ * numbered 1 to 40; room n is record n - 1 of the message. */
 struct panel {
     char head[PANEL_WIDTH];
     char lines[PANEL_ROOMS][PANEL_WIDTH];
@@ -18,7 +18,7 @@ struct panel {
 /* Shows a floor's message. It is one table, by rows or by columns, of forty records that are counted, not put in dimensions, with the
  * fields
  *
- *   temperature   `I`, tenths of a degree, or `d`, degrees: from -40 to 80 degrees
+ *   temperature   `I`, tenths of a degree, or `d`, degrees; outside -40 to 80 degrees there is none
  *   alert         `T`
  *   time          `m`, seconds, since midnight or since 1970: the time of day is shown
  *

@@ -102,6 +102,12 @@ static int is_floor(const char *temperature)
     return shows("40 rooms, alert marks: 1", line);
 }
 
+/* A floor whose room 17 has an alert mark and no temperature. */
+static int has_none(void)
+{
+    return shows("40 rooms, alert marks: 1", "room 17  no temperature  08:00:17");
+}
+
 static int is_no_floor(const char *why)
 {
     char head[PANEL_WIDTH];
@@ -182,7 +188,7 @@ static int single_is(uint32_t bits, const char *temperature)
     for (i = 0; i < 4; i++) {
         m.at[BEGIN + (CALLER - 1) * RECORD + i] = (unsigned char)(bits >> 8 * i);
     }
-    return *temperature == 0 ? is_no_floor("no temperature in room 17") : is_floor(temperature);
+    return *temperature == 0 ? has_none() : is_floor(temperature);
 }
 
 static int tenths_are(int tenths, const char *temperature)
@@ -190,7 +196,7 @@ static int tenths_are(int tenths, const char *temperature)
     floor_of('[', "I");
     m.at[BEGIN + (CALLER - 1) * 7] = (unsigned char)tenths;
     m.at[BEGIN + (CALLER - 1) * 7 + 1] = (unsigned char)((unsigned)tenths >> 8);
-    return *temperature == 0 ? is_no_floor("no temperature in room 17") : is_floor(temperature);
+    return *temperature == 0 ? has_none() : is_floor(temperature);
 }
 
 static void temperatures(void)
@@ -215,6 +221,20 @@ static void temperatures(void)
     CHECK(tenths_are(-400, "-40.0") && tenths_are(-401, ""));
     CHECK(tenths_are(800, "80.0") && tenths_are(801, ""));
     CHECK(tenths_are(-32768, "") && tenths_are(32767, ""));
+}
+
+/* A room that has no temperature is shown where it has no alert mark too, and hides no other. */
+static void no_temperature(void)
+{
+    struct panel panel;
+    floor_of('{', "I");
+    m.at[BEGIN + 2 * 2 + 1] = 0x7F;
+    memset(&panel, GUARD, sizeof panel);
+    show(&panel, 1);
+    CHECK(strcmp(panel.head, "40 rooms, alert marks: 1") == 0 && panel.count == 2);
+    CHECK(strcmp(panel.lines[0], "room  3  no temperature, no alert  08:00:03") == 0);
+    CHECK(strcmp(panel.lines[1], "room 17  21.5 degrees  08:00:17") == 0);
+    CHECK(panel.lines[2][0] == 0);
 }
 
 static void other_messages(void)
@@ -283,7 +303,7 @@ static void sample(const char *path)
 static void cut_and_changed(char opening, const char *mark)
 {
     struct panel panel, empty;
-    size_t i, whole;
+    size_t i, line, whole;
     floor_of(opening, mark);
     whole = m.size;
     for (m.size = 0; m.size < whole; m.size++) {
@@ -296,8 +316,11 @@ static void cut_and_changed(char opening, const char *mark)
         show(&panel, 1);
         m.at[i / 8] ^= (unsigned char)(1 << i % 8);
         if (strcmp(panel.head, "40 rooms, alert marks: 1") == 0) {
-            CHECK(panel.count == 1 && strncmp(panel.lines[0], "room 17", 7) == 0);
-            memset(panel.lines[0], 0, sizeof panel.lines[0]);
+            CHECK(panel.count == 1 || panel.count == 2);
+            for (line = 0; line < panel.count; line++) {
+                CHECK(strncmp(panel.lines[line], "room 17", 7) == 0 || strstr(panel.lines[line], "no temperature, no alert") != NULL);
+                memset(panel.lines[line], 0, sizeof panel.lines[line]);
+            }
             panel.count = 0;
         }
         CHECK(panel.count == 0 && memcmp(panel.lines, empty.lines, sizeof panel.lines) == 0);
@@ -324,6 +347,7 @@ int main(void)
         cut_and_changed(openings[i], "d");
     }
     temperatures();
+    no_temperature();
     other_messages();
     sample("samples/floor-rows.bjd");
     sample("samples/floor-columns.bjd");
