@@ -1,4 +1,4 @@
-// Indexes to the number of an element, and sums that stop at the limit.
+// Indexes to the number of an element, and sums capped at the highest that a machine word holds.
 pub mod sums;
 
 use crate::sums::plus;

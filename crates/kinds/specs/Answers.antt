@@ -1,4 +1,4 @@
--- How the answers of schemas stand to the outcomes of the definitions, and to the lent words.
+-- How the answers of kinds stand to the outcomes of the definitions, and to the lent words.
 use Prim.Native.Nat.{ℕ, _+_, _-_, _≤_, _<_, min}
 use mathlib.Core.Path.{_≡_}
 use mathlib.Core.List.{List}

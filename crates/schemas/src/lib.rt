@@ -1,3 +1,3 @@
-// Schemas: the leaves, records and fixed arrays of a table. The definition reads a schema without offsets and sets them
-// afterwards; here a row is stored with its offset at once.
+// Schemas: the records and fixed arrays of a table, whose leaves `kinds` reads. The definition reads a schema without offsets and sets
+// them afterwards; here a row is stored with its offset at once.
 pub mod groups;

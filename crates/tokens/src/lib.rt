@@ -1,5 +1,5 @@
-// Tokens that hold no others: scalars, texts, high-precision numbers, keys and extensions. A row is stored as far as the lent words reach;
-// refusal 8 goes by the number of rows lent, so a table of any length serves, and an empty one where only the answer is wanted.
+// Tokens that hold no others, but extensions: scalars, texts, high-precision numbers and keys. A row is stored as far as the lent words
+// reach; refusal 8 goes by the number of rows lent, so a table of any length serves, and an empty one where only the answer is wanted.
 pub mod entry;
 pub mod scalars;
 
