@@ -49,7 +49,7 @@ in-record fixedArray = inr (inr (inr refl))
 in-record dimension = inl refl
 in-record extension = inl refl
 
--- the payload of a token that has none lies between the tokens' bounds
+-- the payload of a token that has no offset lies between the bounds of the tokens
 payload-between : {n k low high : ℕ} {t : Token} {f v : Forest} → InOrder low high f → At n f k t v → isOffset (t .kind) ≡ false
     → (t .first ≤ t .payload) × (t .payload + t .extent ≤ high)
 payload-between (step h u r a) here c = let i = r .inside c in let y = order-size a in (i .0, omega arith)
