@@ -10,7 +10,7 @@ use borrow.Author.Tests.{eqb-true}
 use Rattle.format.specs.Conditions.{if_then_else_}
 use Rattle.format.specs.Tokens.{Token, kindNumber, leaf, isKind, Forest, none, node, size, _⊕_, members}
 use Rattle.format.specs.Records.{memberWidth, totalWidth}
-use Rattle.format.specs.Rows.{rows}
+use Rattle.format.specs.Rows.{Ancestry, heldBy, rows}
 
 -- ---- one and then another
 
@@ -49,15 +49,15 @@ leaf-width t h = rw (← eqb-true (kindNumber leaf) (kindNumber (t .kind)) h)
 -- ---- their rows
 
 -- as many rows as tokens
-pub length-rows : (n : ℕ) (f : Forest) → length (rows n f) ≡ size f
+pub length-rows : (n : ℕ) (a : Ancestry) (f : Forest) → length (rows n a f) ≡ size f
 unfolding rows size
-length-rows n none = refl
-length-rows n (node t below after) =
-    ap suc (length-append (rows (suc n) below) _ ∙ simp (length-rows (suc n) below, length-rows (suc n + size below) after))
+length-rows n a none = refl
+length-rows n a (node t below after) =
+    ap suc (length-append (rows (suc n) (heldBy n a) below) _ ∙ simp (length-rows (suc n) (heldBy n a) below, length-rows (suc n + size below) a after))
 
-pub rows-append : (n : ℕ) (f g : Forest) → rows n (f ⊕ g) ≡ rows n f ++ rows (n + size f) g
+pub rows-append : (n : ℕ) (a : Ancestry) (f g : Forest) → rows n a (f ⊕ g) ≡ rows n a f ++ rows (n + size f) a g
 unfolding rows size _⊕_
-rows-append n none g = rw add-zero
-rows-append n (node t below after) g =
+rows-append n a none g = rw add-zero
+rows-append n a (node t below after) g =
     let e : suc n + size below + size after ≡ n + suc (size below + size after) = omega arith in
-    simp (rows-append (suc n + size below) after g, e, append-assoc)
+    simp (rows-append (suc n + size below) a after g, e, append-assoc)

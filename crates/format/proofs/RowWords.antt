@@ -28,6 +28,8 @@ row-after r ws row = λ i. record {
   count = there 5 i;
   link = there 6 i;
   order = there 7 i;
+  parent = there 8 i;
+  depth = there 9 i;
 }
   where
     there : (k : ℕ) → getD (layout r ++ ws) (suc row * rowWords + k) 0 ≡ getD ws (row * rowWords + k) 0

@@ -53,6 +53,10 @@ isMember r = isLeafRow r || (isSchema r || isFixed r)
 unfoldable pub isDimension : Row → Bool
 isDimension = isA dimension isInteger plainCount
 
+-- a row that names this container as its parent
+unfoldable pub childOf : ℕ → (Row → Bool) → Row → Bool
+childOf container fits r = eqb (r .parent) (container + 1) && fits r
+
 -- ---- the way
 
 module _ (ws : List ℕ) where
@@ -71,7 +75,7 @@ module _ (ws : List ℕ) where
   dimensionsFrom (suc fuel) container row =
       let stop = rowAt ws container .link in
       if leb stop row then done [] else (do
-        next ← along isDimension stop row
+        next ← along (childOf container isDimension) stop row
         ds ← dimensionsFrom fuel container next
         done (rowAt ws row .count ∷ ds))
 
@@ -90,8 +94,8 @@ module _ (ws : List ℕ) where
   seek leafRow zero container row = fault rowsDontFit 0
   seek leafRow (suc fuel) container row = do
     let c = rowAt ws container
-    here ← if isSchema c then along isKey (c .link) row else done row
-    next ← along isMember (c .link) here
+    here ← if isSchema c then along (childOf container isKey) (c .link) row else done row
+    next ← along (childOf container isMember) (c .link) here
     let r = rowAt ws here
     if eqb here leafRow then guard (isLeafRow r) rowsDontFit 0 >> done here else
         if ltb here leafRow && ltb leafRow next then (do
@@ -122,7 +126,7 @@ module _ (ws : List ℕ) where
   unfoldable pub tableSlot : ℕ → ℕ → ℕ → List ℕ → Outcome Region
   tableSlot messageBytes row leafRow is = do
     stop ← along isTable (rowsIn ws) row
-    from ← along isSchema stop (row + 1)
+    from ← along (childOf row isSchema) stop (row + 1)
     fieldRow ← seek leafRow (length ws) (row + 1) (memberRow row)
     ds ← dimensions row from
     guard (inRange ds is) notThere 0

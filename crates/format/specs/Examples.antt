@@ -92,18 +92,18 @@ tableOf opening = opening ∷ 0x24 ∷ 0x7B ∷ 0x55 ∷ 0x01 ∷ 0x61 ∷ 0x55 
 -- example 12's rows
 abbrev pub tableRows : List ℕ
 tableRows =
-    8 ∷ 91 ∷ 0 ∷ 15 ∷ 4 ∷ 2 ∷ 6 ∷ 0
-    ∷ 10 ∷ 123 ∷ 2 ∷ 0 ∷ 2 ∷ 2 ∷ 6 ∷ 0
-    ∷ 4 ∷ 83 ∷ 3 ∷ 5 ∷ 1 ∷ 0 ∷ 3 ∷ 0
-    ∷ 9 ∷ 85 ∷ 6 ∷ 0 ∷ 1 ∷ 0 ∷ 4 ∷ 0
-    ∷ 4 ∷ 83 ∷ 7 ∷ 9 ∷ 1 ∷ 0 ∷ 5 ∷ 0
-    ∷ 9 ∷ 84 ∷ 10 ∷ 1 ∷ 1 ∷ 0 ∷ 6 ∷ 0 ∷ []
+    8 ∷ 91 ∷ 0 ∷ 15 ∷ 4 ∷ 2 ∷ 6 ∷ 0 ∷ 0 ∷ 0
+    ∷ 10 ∷ 123 ∷ 2 ∷ 0 ∷ 2 ∷ 2 ∷ 6 ∷ 0 ∷ 1 ∷ 1
+    ∷ 4 ∷ 83 ∷ 3 ∷ 5 ∷ 1 ∷ 0 ∷ 3 ∷ 0 ∷ 2 ∷ 2
+    ∷ 9 ∷ 85 ∷ 6 ∷ 0 ∷ 1 ∷ 0 ∷ 4 ∷ 0 ∷ 2 ∷ 2
+    ∷ 4 ∷ 83 ∷ 7 ∷ 9 ∷ 1 ∷ 0 ∷ 5 ∷ 0 ∷ 2 ∷ 2
+    ∷ 9 ∷ 84 ∷ 10 ∷ 1 ∷ 1 ∷ 0 ∷ 6 ∷ 0 ∷ 2 ∷ 2 ∷ []
 
 -- 1 to 12, of which 8 and 12 have two each
 abbrev pub examples : List Example
 examples =
     record { message = []; claim = refused 2 0 }
-    ∷ record { message = 0x5A ∷ []; claim = listed (1 ∷ 90 ∷ 0 ∷ 1 ∷ 0 ∷ 0 ∷ 1 ∷ 0 ∷ []) }
+    ∷ record { message = 0x5A ∷ []; claim = listed (1 ∷ 90 ∷ 0 ∷ 1 ∷ 0 ∷ 0 ∷ 1 ∷ 0 ∷ 0 ∷ 0 ∷ []) }
     ∷ record { message = 0x4E ∷ 0x4E ∷ []; claim = refused 2 2 }
     ∷ record { message = 0x5A ∷ 0x5A ∷ []; claim = refused 9 1 }
     ∷ record { message = 0x53 ∷ 0x69 ∷ 0xFF ∷ []; claim = refused 6 1 }
@@ -126,8 +126,8 @@ wideId = 0x45 ∷ 0x4D ∷ 0xFF ∷ 0xFF ∷ 0xFF ∷ 0xFF ∷ 0 ∷ 0 ∷ 0 ∷
 -- before the payload's end; `N` before the id; the deepest level holds one; none as a type; house form
 abbrev pub extensions : List Example
 extensions =
-    record { message = 0x45 ∷ 0x55 ∷ 1 ∷ 0x55 ∷ 4 ∷ 9 ∷ 8 ∷ 7 ∷ 6 ∷ []; claim = listed (13 ∷ 69 ∷ 0 ∷ 5 ∷ 4 ∷ 1 ∷ 1 ∷ 0 ∷ []) }
-    ∷ record { message = wideId ++ 0x55 ∷ 0 ∷ []; claim = listed (13 ∷ 69 ∷ 0 ∷ 12 ∷ 0 ∷ 4_294_967_295 ∷ 1 ∷ 0 ∷ []) }
+    record { message = 0x45 ∷ 0x55 ∷ 1 ∷ 0x55 ∷ 4 ∷ 9 ∷ 8 ∷ 7 ∷ 6 ∷ []; claim = listed (13 ∷ 69 ∷ 0 ∷ 5 ∷ 4 ∷ 1 ∷ 1 ∷ 0 ∷ 0 ∷ 0 ∷ []) }
+    ∷ record { message = wideId ++ 0x55 ∷ 0 ∷ []; claim = listed (13 ∷ 69 ∷ 0 ∷ 12 ∷ 0 ∷ 4_294_967_295 ∷ 1 ∷ 0 ∷ 0 ∷ 0 ∷ []) }
     ∷ record { message = 0x45 ∷ 0x4D ∷ 0 ∷ 0 ∷ 0 ∷ 0 ∷ 1 ∷ 0 ∷ 0 ∷ 0 ∷ 0x55 ∷ 0 ∷ []; claim = refused 5 1 }
     ∷ record { message = 0x45 ∷ 0x69 ∷ 0xFF ∷ 0x55 ∷ 0 ∷ []; claim = refused 6 1 }
     ∷ record { message = 0x45 ∷ 0x55 ∷ 1 ∷ 0x69 ∷ 0xFF ∷ []; claim = refused 6 3 }

@@ -14,14 +14,29 @@ pub record Row : Type 0 where
   pub count : ℕ
   pub link : ℕ
   pub order : ℕ
+  pub parent : ℕ
+  pub depth : ℕ
+
+-- a token's ancestry: its parent's row plus one, 0 for the outermost; and its depth, 0 for the outermost
+pub record Ancestry : Type 0 where
+  pub parent : ℕ
+  pub depth : ℕ
+
+-- that of the outermost token
+abbrev pub outermost : Ancestry
+outermost = record { parent = 0; depth = 0 }
+
+-- that of the tokens that the token of a row holds: one deeper
+unfoldable pub heldBy : ℕ → Ancestry → Ancestry
+heldBy row a = record { parent = row + 1; depth = a .depth + 1 }
 
 -- how many words a row has
 abbrev pub rowWords : ℕ
-rowWords = 8
+rowWords = 10
 
 -- a row's words in their order
 unfoldable pub layout : Row → List ℕ
-layout r = r .kind ∷ r .mark ∷ r .first ∷ r .payload ∷ r .extent ∷ r .count ∷ r .link ∷ r .order ∷ []
+layout r = r .kind ∷ r .mark ∷ r .first ∷ r .payload ∷ r .extent ∷ r .count ∷ r .link ∷ r .order ∷ r .parent ∷ r .depth ∷ []
 
 -- the way back: word k of a row of lent words
 unfoldable pub word : List ℕ → ℕ → ℕ → ℕ
@@ -38,6 +53,8 @@ rowAt ws row = record {
   count = word ws row 5;
   link = word ws row 6;
   order = word ws row 7;
+  parent = word ws row 8;
+  depth = word ws row 9;
 }
 
 -- how many rows lent words have: a remainder holds none
@@ -45,8 +62,8 @@ unfoldable pub rowsIn : List ℕ → ℕ
 rowsIn ws = length ws / rowWords
 
 -- a token's row, with its link
-unfoldable pub rowOf : Token → ℕ → Row
-rowOf t link = record {
+unfoldable pub rowOf : Token → ℕ → Ancestry → Row
+rowOf t link a = record {
   kind = kindNumber (t .kind);
   mark = t .mark;
   first = t .first;
@@ -55,13 +72,15 @@ rowOf t link = record {
   count = t .count;
   link = link;
   order = t .order;
+  parent = a .parent;
+  depth = a .depth;
 }
 
 -- the rows of a forest from row n on, in message order
-unfoldable pub rows : ℕ → Forest → List Row
-rows n none = []
-rows n (node t below after) =
-    rowOf t (suc n + size below) ∷ rows (suc n) below ++ rows (suc n + size below) after
+unfoldable pub rows : ℕ → Ancestry → Forest → List Row
+rows n a none = []
+rows n a (node t below after) =
+    rowOf t (suc n + size below) a ∷ rows (suc n) (heldBy n a) below ++ rows (suc n + size below) a after
 
 -- the words of rows, one row after another
 unfoldable pub wordsOf : List Row → List ℕ
@@ -70,7 +89,7 @@ wordsOf (r ∷ rs) = layout r ++ wordsOf rs
 
 -- the rows of a whole message
 unfoldable pub allRows : Forest → List Row
-allRows f = rows 0 f
+allRows f = rows 0 outermost f
 
 -- and their words
 unfoldable pub allWords : Forest → List ℕ

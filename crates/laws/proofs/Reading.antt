@@ -14,7 +14,7 @@ use Rattle.format.specs.Limits.{limit, valueLevels}
 use Rattle.format.specs.Refusals.{messageTooLong, endsTooEarly, notAllowed, noRowLeft}
 use Rattle.format.specs.Marks.{'E'}
 use Rattle.format.specs.Tokens.{Forest, size}
-use Rattle.format.specs.Rows.{allRows}
+use Rattle.format.specs.Rows.{outermost, allRows}
 use Rattle.format.specs.Bytes.{skip}
 use Rattle.format.specs.Sequences.{spaced}
 use Rattle.format.specs.Read.{read}
@@ -31,7 +31,7 @@ use Rattle.laws.proofs.Added.{Added, value-keeps, end-refuses}
 -- There are as many rows as tokens.
 pub rows-are-tokens : (f : Forest) → length (allRows f) ≡ size f
 unfolding allRows
-rows-are-tokens f = length-rows 0 f
+rows-are-tokens f = length-rows 0 outermost f
 
 -- a refusal with 3 at an `E`
 abbrev pub AtExtension : List ℕ → ℕ → ℕ → Type 0
@@ -57,7 +57,7 @@ module _ (m : List ℕ) (rowsLent : ℕ) (grammar : Grammar) where
   -- The first bytes of its rows rise strictly, and lie below the message's length.
   pub first-bytes-rise : (f : Forest) → read m rowsLent grammar ≡ done f → Rising 0 (length m) (allRows f)
   unfolding allRows
-  first-bytes-rise f e = rows-rising 0 (of-done f (read-bounded m rowsLent grammar) e .1)
+  first-bytes-rise f e = rows-rising 0 outermost (of-done f (read-bounded m rowsLent grammar) e .1)
 
   -- More rows lent change no answer but a refusal with 8.
   pub more-rows : (more : ℕ) → rowsLent ≤ more → (numberOf (read m rowsLent grammar) ≡ noRowLeft → ⊥) → read m more grammar ≡ read m rowsLent grammar

@@ -4,7 +4,7 @@ use mathlib.Core.List.{List, _++_}
 use native.Mathlib.Omega.{arith}
 use native.Mathlib.Nat.{le-trans}
 use Rattle.format.specs.Tokens.{Forest, size}
-use Rattle.format.specs.Rows.{Row, rowOf, rows}
+use Rattle.format.specs.Rows.{Row, Ancestry, heldBy, rowOf, rows}
 use Rattle.laws.specs.Rising.{Rising, noRow, nextRow}
 use Rattle.laws.proofs.Order.{InOrder, stop, step, order-size}
 
@@ -16,10 +16,10 @@ rising-append : {low mid high : ℕ} {l k : List Row} → low ≤ mid → mid �
 rising-append h i noRow s = rising-from _ h s
 rising-append h i (nextRow j k r) s = nextRow j (le-trans k i) (rising-append (omega arith) i r s)
 
-pub rows-rising : {low high : ℕ} {f : Forest} (n : ℕ) → InOrder low high f → Rising low high (rows n f)
+pub rows-rising : {low high : ℕ} {f : Forest} (n : ℕ) (ancestry : Ancestry) → InOrder low high f → Rising low high (rows n ancestry f)
 unfolding rows rowOf
-rows-rising n (stop h) = noRow
-rows-rising {high = high} n (step {t = t} {below = below} h u r a) =
+rows-rising n ancestry (stop h) = noRow
+rows-rising {high = high} n ancestry (step {t = t} {below = below} h u r a) =
     let x = order-size u in
     let y = order-size a in
-    nextRow {high = high} h (omega arith) (rising-append (omega arith) (omega arith) (rows-rising (suc n) u) (rising-from _ (r .on) (rows-rising (suc n + size below) a)))
+    nextRow {high = high} h (omega arith) (rising-append (omega arith) (omega arith) (rows-rising (suc n) (heldBy n ancestry) u) (rising-from _ (r .on) (rows-rising (suc n + size below) ancestry a)))

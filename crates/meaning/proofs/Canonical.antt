@@ -12,7 +12,7 @@ use Rattle.format.specs.Conditions.{if_then_else_, among}
 use Rattle.format.specs.Outcome.{done}
 use Rattle.format.specs.Limits.{limit}
 use Rattle.format.specs.Tokens.{Kind, kindNumber, scalar, text, highPrecision, key, array, object, packed, table, leaf, schemaRecord, fixedArray, dimension, extension, Token, Forest, none, node, size}
-use Rattle.format.specs.Rows.{layout, rowOf, rows, allRows}
+use Rattle.format.specs.Rows.{Ancestry, outermost, heldBy, layout, rowOf, rows, allRows}
 use Rattle.format.specs.Read.{read}
 use Rattle.format.specs.Extensions.{idBytes}
 use Rattle.format.specs.HouseForm.{payloadOf, house}
@@ -73,10 +73,10 @@ parted f g xs ys xs′ ys′ l e =
 
 module _ (m h : List ℕ) where
   -- tokens whose rows have the same meaning are alike, and so are their links
-  row-alike : (t u : Token) (k l : ℕ) → rowMeaning m (rowOf t k) ≡ rowMeaning h (rowOf u l) → Alike m h (t .kind) t u × (l ≡ k)
+  row-alike : (t u : Token) (k l : ℕ) (ancestry : Ancestry) → rowMeaning m (rowOf t k ancestry) ≡ rowMeaning h (rowOf u l ancestry) → Alike m h (t .kind) t u × (l ≡ k)
   unfolding rowMeaning rowOf layout kept payloadOf
-  row-alike t u k l e =
-      let words : (i : ℕ) → getD (rowMeaning m (rowOf t k) .0) i 0 ≡ getD (rowMeaning h (rowOf u l) .0) i 0 = λ i. ap (λ (x : List ℕ × List ℕ × List ℕ). getD (x .0) i 0) e in
+  row-alike t u k l ancestry e =
+      let words : (i : ℕ) → getD (rowMeaning m (rowOf t k ancestry) .0) i 0 ≡ getD (rowMeaning h (rowOf u l ancestry) .0) i 0 = λ i. ap (λ (x : List ℕ × List ℕ × List ℕ). getD (x .0) i 0) e in
       let a = always (t .kind) in
       let b = always (u .kind) in
       let s : u .kind ≡ t .kind = same-number (u .kind) (t .kind) (word-same _ _ (kindNumber (t .kind)) (kindNumber (u .kind)) (words 0) (a .0) (b .0)) in
@@ -94,22 +94,22 @@ module _ (m h : List ℕ) where
         word-same _ _ k l (words 6) (a .2) (b .2),
       )
 
-  pub meaning-same : (n : ℕ) (f g : Forest) → SameMeaning m (rows n f) h (rows n g) → Same m h f g
+  pub meaning-same : (n : ℕ) (ancestry : Ancestry) (f g : Forest) → SameMeaning m (rows n ancestry f) h (rows n ancestry g) → Same m h f g
   unfolding rows
-  meaning-same n none none e = nothing
-  meaning-same n none (node u b′ a′) e = let z : _≡_ {A = ℕ} 0 1 = cc in absurd (omega arith)
-  meaning-same n (node t b a) none e = let z : _≡_ {A = ℕ} 0 1 = cc in absurd (omega arith)
-  meaning-same n (node t b a) (node u b′ a′) e =
-      let r = row-alike t u (suc n + size b) (suc n + size b′) (head-eq-of-cons-eq e) in
+  meaning-same n ancestry none none e = nothing
+  meaning-same n ancestry none (node u b′ a′) e = let z : _≡_ {A = ℕ} 0 1 = cc in absurd (omega arith)
+  meaning-same n ancestry (node t b a) none e = let z : _≡_ {A = ℕ} 0 1 = cc in absurd (omega arith)
+  meaning-same n ancestry (node t b a) (node u b′ a′) e =
+      let r = row-alike t u (suc n + size b) (suc n + size b′) ancestry (head-eq-of-cons-eq e) in
       let z : size b′ ≡ size b = omega (arith, r .1) in
-      let p = parted (rowMeaning m) (rowMeaning h) (rows (suc n) b) (rows (suc n + size b) a) (rows (suc n) b′) (rows (suc n + size b′) a′)
-      (length-rows (suc n) b ∙ sym z ∙ sym (length-rows (suc n) b′)) (tail-eq-of-cons-eq e) in
-      one (r .0) (meaning-same (suc n) b b′ (p .0)) (meaning-same (suc n + size b) a a′ (rw z at (p .1)))
+      let p = parted (rowMeaning m) (rowMeaning h) (rows (suc n) (heldBy n ancestry) b) (rows (suc n + size b) ancestry a) (rows (suc n) (heldBy n ancestry) b′) (rows (suc n + size b′) ancestry a′)
+      (length-rows (suc n) (heldBy n ancestry) b ∙ sym z ∙ sym (length-rows (suc n) (heldBy n ancestry) b′)) (tail-eq-of-cons-eq e) in
+      one (r .0) (meaning-same (suc n) (heldBy n ancestry) b b′ (p .0)) (meaning-same (suc n + size b) ancestry a a′ (rw z at (p .1)))
 
   -- Messages of the same meaning have the same house form.
   pub one-house-form : (f g : Forest) → SameMeaning m (allRows f) h (allRows g) → house h g ≡ house m f
   unfolding allRows
-  one-house-form f g e = same-house m h (meaning-same 0 f g e)
+  one-house-form f g e = same-house m h (meaning-same 0 outermost f g e)
 
 -- Two accepted messages, whose house form fits, have the same meaning exactly if they have the same house form.
 pub meaning-by-house : (m n : List ℕ) (rowsLent rowsLent′ : ℕ) (grammar : Grammar) (f g : Forest) → read m rowsLent grammar ≡ done f → read n rowsLent′ grammar ≡ done g → length (house m f) ≤ limit

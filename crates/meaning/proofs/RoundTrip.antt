@@ -13,7 +13,7 @@ use Rattle.format.specs.Outcome.{done}
 use Rattle.format.specs.Limits.{limit, valueLevels}
 use Rattle.format.specs.Marks.{bracket, brace, 'N'}
 use Rattle.format.specs.Tokens.{Forest, size}
-use Rattle.format.specs.Rows.{allRows}
+use Rattle.format.specs.Rows.{outermost, allRows}
 use Rattle.format.specs.HouseForm.{house}
 use Rattle.format.specs.Sequences as Sequences
 use Rattle.format.specs.Sequences.{Reader, _⨾_}
@@ -131,7 +131,7 @@ module _ (m : List ℕ) (rowsLent : ℕ) (grammar : Grammar) (f : Forest) (accep
   unfolding allRows
   round-trip-with rows enough =
       let r = copied-tokens rows enough in
-      record { tokens = r .0; accepted = r .1; meaning = same-rows m (house m f) 0 (r .2 .same); rows-used = same-size m (house m f) (r .2 .same) }
+      record { tokens = r .0; accepted = r .1; meaning = same-rows m (house m f) 0 outermost (r .2 .same); rows-used = same-size m (house m f) (r .2 .same) }
 
   -- So it is with the rows that were lent to the message.
   pub round-trip : Rewritten m f rowsLent grammar (house m f)

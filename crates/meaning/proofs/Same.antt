@@ -6,7 +6,7 @@ use mathlib.Core.List.{List, [], _∷_, _++_, map, map-append}
 use native.Mathlib.Omega.{arith}
 use Rattle.format.specs.Conditions.{if_then_else_, among}
 use Rattle.format.specs.Tokens.{Kind, kindNumber, scalar, text, highPrecision, key, array, object, packed, table, leaf, schemaRecord, fixedArray, dimension, extension, Token, Forest, none, node, size, _⊕_, members, counts}
-use Rattle.format.specs.Rows.{layout, rowOf, rows}
+use Rattle.format.specs.Rows.{Ancestry, heldBy, layout, rowOf, rows}
 use Rattle.format.specs.Extensions.{idBytes}
 use Rattle.format.specs.HouseForm.{Written, whole, payloadOf, token, written, house}
 use Rattle.format.specs.SameMeaning.{free, kept, hasBytes, hasId, rowMeaning, SameMeaning}
@@ -63,9 +63,9 @@ bytes-kept true x y e = sym (e refl)
 bytes-kept false x y e = refl
 
 module _ (m h : List ℕ) where
-  alike-row : (t u : Token) (link : ℕ) → Alike m h (t .kind) t u → rowMeaning m (rowOf t link) ≡ rowMeaning h (rowOf u link)
+  alike-row : (t u : Token) (link : ℕ) (ancestry : Ancestry) → Alike m h (t .kind) t u → rowMeaning m (rowOf t link ancestry) ≡ rowMeaning h (rowOf u link ancestry)
   unfolding rowMeaning rowOf layout kept payloadOf
-  alike-row t u link a =
+  alike-row t u link ancestry a =
       let kind : ℕ = kindNumber (t .kind) in
       let may : ℕ → Bool = among (free kind) in
       let first-may : may 2 ≡ false → u .first ≡ t .first = λ e. absurd (false≢true (sym e ∙ first-free (t .kind))) in
@@ -78,6 +78,8 @@ module _ (m h : List ℕ) where
             ∷ word-kept (may 5) (t .count) (u .count) (λ _. a .counted) i
             ∷ word-kept (may 6) link link (λ _. refl) i
             ∷ word-kept (may 7) (t .order) (u .order) (λ _. a .orders) i
+            ∷ word-kept (may 8) (ancestry .parent) (ancestry .parent) (λ _. refl) i
+            ∷ word-kept (may 9) (ancestry .depth) (ancestry .depth) (λ _. refl) i
             ∷ [],
         bytes-kept (hasBytes kind) (payloadOf m t) (payloadOf h u) (a .contents) i,
         bytes-kept (hasId kind) (idBytes m (t .first)) (idBytes h (u .first)) (a .ids) i,
@@ -89,13 +91,13 @@ module _ (m h : List ℕ) where
   same-size (one a u r) = let x = same-size u in let y = same-size r in omega arith
 
   -- the rows of such tokens have the same meaning
-  pub same-rows : {f g : Forest} (n : ℕ) → Same m h f g → SameMeaning m (rows n f) h (rows n g)
+  pub same-rows : {f g : Forest} (n : ℕ) (ancestry : Ancestry) → Same m h f g → SameMeaning m (rows n ancestry f) h (rows n ancestry g)
   unfolding rows
-  same-rows n nothing = refl
-  same-rows n (one {t = t} {u = u} {below = b} {below′ = b′} {after = a} {after′ = a′} k s r) =
-      let e : map (rowMeaning m) (rows (suc n) b ++ rows (suc n + size b) a) ≡ map (rowMeaning h) (rows (suc n) b′ ++ rows (suc n + size b) a′) =
-      map-append (rowMeaning m) (rows (suc n) b) _ ∙ ap₂ _++_ (same-rows (suc n) s) (same-rows (suc n + size b) r) ∙ sym (map-append (rowMeaning h) (rows (suc n) b′) _) in
-      rw (same-size s) (λ i. alike-row t u (suc n + size b) k i ∷ e i)
+  same-rows n ancestry nothing = refl
+  same-rows n ancestry (one {t = t} {u = u} {below = b} {below′ = b′} {after = a} {after′ = a′} k s r) =
+      let e : map (rowMeaning m) (rows (suc n) (heldBy n ancestry) b ++ rows (suc n + size b) ancestry a) ≡ map (rowMeaning h) (rows (suc n) (heldBy n ancestry) b′ ++ rows (suc n + size b) ancestry a′) =
+      map-append (rowMeaning m) (rows (suc n) (heldBy n ancestry) b) _ ∙ ap₂ _++_ (same-rows (suc n) (heldBy n ancestry) s) (same-rows (suc n + size b) ancestry r) ∙ sym (map-append (rowMeaning h) (rows (suc n) (heldBy n ancestry) b′) _) in
+      rw (same-size s) (λ i. alike-row t u (suc n + size b) ancestry k i ∷ e i)
 
   -- ---- what is counted of them
 

@@ -13,21 +13,21 @@ use Rattle.format.specs.Outcome.{Outcome, fault, done, _>>=_, _>>_, guard}
 use Rattle.format.specs.Refusals.{notThere, rowsDontFit}
 use Rattle.format.specs.Marks.{Opening, bracket, brace, opens, isType, width, '[', left-brace}
 use Rattle.format.specs.Tokens.{Token, packed as packedKind, table as tableKind, leaf as leafKind, firstSlowest, firstFastest, plainCount, Forest, node, size, belowFirst}
-use Rattle.format.specs.Rows.{rowAt, rowsIn, rowOf}
+use Rattle.format.specs.Rows.{Ancestry, outermost, heldBy, rowAt, rowsIn, rowOf}
 use Rattle.format.specs.Indexes.{inRange, numberIn}
 use Rattle.format.specs.Storage.{memberRow, dimensionsOf}
-use Rattle.format.specs.Addresses.{Region, isPacked, isTable, isSchema, along, seek, dimensions, inside, packedSlot, tableSlot}
+use Rattle.format.specs.Addresses.{Region, isPacked, isTable, isSchema, childOf, along, seek, dimensions, inside, packedSlot, tableSlot}
 use Rattle.laws.specs.Places.{At, here, under, later}
-use Rattle.storage.specs.Places.{Field, Filled}
+use Rattle.storage.specs.Places.{Rowed, Field, Filled}
 use Rattle.storage.specs.Addresses.{Address, inPacked, inTable, indexesOf, regionOf, Below, packedRow, tableLeaf}
 use Rattle.storage.specs.Verdicts.{Verdict, wrongRows, wrongIndexes, answered}
-use Rattle.storage.proofs.Places.{Rowed, at-size, at-same, at-below, field-row, field-at, filled-rows, filled-enough}
+use Rattle.storage.proofs.Places.{rowed-own, rowed-under, rowed-later, rowed-at, at-size, at-same, field-row, field-at, filled-rows, filled-enough}
 use Rattle.storage.proofs.Naming.{names-table}
 use Rattle.storage.proofs.Numbering.{below-range, below-case, not-in-range}
 use Rattle.laws.proofs.Counts.{order-most}
 use Rattle.storage.proofs.Tiling.{tile-inside}
 use Rattle.storage.proofs.Stored.{IsPacked, IsTable}
-use Rattle.storage.proofs.Walks.{is-a, is-one, along-done, dimensions-done, inside-done}
+use Rattle.storage.proofs.Walks.{is-a, is-one, along-done, child-done, dimensions-done, inside-done}
 use Rattle.storage.proofs.Seek.{NoLeaf, Sought, found, missing, seek-law}
 use Rattle.storage.proofs.Leaves.{field-from}
 use Rattle.storage.proofs.Cuts.{formulaOf}
@@ -38,7 +38,7 @@ verdict-as : {f : Forest} {a : Address} {o o′ : Outcome Region} → o′ ≡ o
 verdict-as {f} {a} e v = subst (λ x. Verdict f a x) (sym e) v
 
 module _ (f : Forest) (ws : List ℕ) (filled : Filled f ws) (messageBytes : ℕ) where
-  rowed : Rowed ws 0 f
+  rowed : Rowed ws 0 outermost f
   rowed = filled-rows f ws filled
 
   rows-fit : size f ≤ rowsIn ws
@@ -48,9 +48,16 @@ module _ (f : Forest) (ws : List ℕ) (filled : Filled f ws) (messageBytes : ℕ
   few-rows : size f ≤ length ws
   few-rows = let e = filled-enough f ws filled in omega arith
 
-  -- the rows below a row
-  rows-below : {k : ℕ} {t : Token} {below : Forest} → At 0 f k t below → Rowed ws (suc k) below
-  rows-below x j u v y = rowed j u v (at-below x y)
+  -- a row's ancestry, the row, and the rows below it
+  module _ {k : ℕ} {t : Token} {below : Forest} (x : At 0 f k t below) where
+    abbrev ancestry : Ancestry
+    ancestry = rowed-at rowed x .0
+
+    row-is : rowAt ws k ≡ rowOf t (suc k + size below) ancestry
+    row-is = rowed-at rowed x .1
+
+    rows-below : Rowed ws (suc k) (heldBy k ancestry) below
+    rows-below = rowed-at rowed x .2
 
   -- ---- a packed row
 
@@ -61,7 +68,7 @@ module _ (f : Forest) (ws : List ℕ) (filled : Filled f ws) (messageBytes : ℕ
     along-packed =
         let z = at-size at in
         let r = rows-fit in
-        along-done ws _ (rowsIn ws) k _ t (rowed k t below at) (is-a packedKind isType firstFastest t _ (ok .kind-is) (ok .mark-is) (order-most (ok .shaped))) (omega arith) (omega arith)
+        along-done ws _ (rowsIn ws) k _ t _ (row-is at) (is-a packedKind isType firstFastest t _ _ (ok .kind-is) (ok .mark-is) (order-most (ok .shaped))) (omega arith) (omega arith)
 
     packed-call : (is : List ℕ) → packedSlot ws messageBytes k is
         ≡ (guard (inRange (dimensionsOf t below) is) notThere 0 >> inside ws messageBytes (t .mark) (t .payload + numberIn (t .order) (dimensionsOf t below) is * width (t .mark)) 0 (width (t .mark)))
@@ -69,8 +76,8 @@ module _ (f : Forest) (ws : List ℕ) (filled : Filled f ws) (messageBytes : ℕ
     packed-call is =
         let z = at-size at in
         let r = few-rows in
-        let own = rowed k t below at in
-        let ds : dimensions ws k (suc k) ≡ done (dimensionsOf t below) = dimensions-done ws k (suc k) _ t own (ok .shaped) (rows-below at) refl (omega arith) ∙ ap done (sym (packed-dimensions k t below ok)) in
+        let own = row-is at in
+        let ds : dimensions ws k (suc k) ≡ done (dimensionsOf t below) = dimensions-done ws k (suc k) _ t _ _ own (ok .shaped) (rows-below at) refl (omega arith) ∙ ap done (sym (packed-dimensions k t below ok)) in
         rw (along-packed, add-one k, ds, own)
 
     packed-answer : (is : List ℕ) → Below is (dimensionsOf t below) → packedSlot ws messageBytes k is ≡ done (regionOf t (elementAt k t below ok is))
@@ -99,14 +106,14 @@ module _ (f : Forest) (ws : List ℕ) (filled : Filled f ws) (messageBytes : ℕ
     ds = dimensionsOf t (node s members dims)
 
     -- the rows of the table: its own, its schema's, and the members'
-    own : rowAt ws k ≡ rowOf t (suc k + size (node s members dims))
-    own = rowed k t (node s members dims) at
+    own : rowAt ws k ≡ rowOf t (suc k + size (node s members dims)) (ancestry at)
+    own = row-is at
 
-    schema : rowAt ws (suc k) ≡ rowOf s (suc (suc k) + size members)
-    schema = rows-below at (suc k) s members here
+    schema : rowAt ws (suc k) ≡ rowOf s (suc (suc k) + size members) (heldBy k (ancestry at))
+    schema = rowed-own (rows-below at)
 
-    members-rowed : Rowed ws (suc (suc k)) members
-    members-rowed j u v x = rows-below at j u v (under x)
+    members-rowed : Rowed ws (suc (suc k)) (heldBy (suc k) (heldBy k (ancestry at))) members
+    members-rowed = rowed-under (rows-below at)
 
     table-mark : (o : Opening) → among ('[' ∷ left-brace ∷ []) (opens o) ≡ true
     unfolding among opens
@@ -118,11 +125,11 @@ module _ (f : Forest) (ws : List ℕ) (filled : Filled f ws) (messageBytes : ℕ
     along-table =
         let z = at-size at in
         let r = rows-fit in
-        along-done ws _ (rowsIn ws) k _ t own (is-a tableKind _ firstSlowest t _ (ok .kind-is) (rw (ok .mark-is) (table-mark (ok .opening))) (order-most (ok .shaped))) (omega arith) (omega arith)
+        along-done ws _ (rowsIn ws) k _ t _ own (is-a tableKind _ firstSlowest t _ _ (ok .kind-is) (rw (ok .mark-is) (table-mark (ok .opening))) (order-most (ok .shaped))) (omega arith) (omega arith)
 
-    along-schema : along ws isSchema (suc k + size (node s members dims)) (suc k) ≡ done (suc (suc k) + size members)
+    along-schema : along ws (childOf k isSchema) (suc k + size (node s members dims)) (suc k) ≡ done (suc (suc k) + size members)
     unfolding isSchema size
-    along-schema = along-done ws _ _ (suc k) _ s schema (is-one plainCount _ (ok .schema-is)) (omega arith) (omega arith)
+    along-schema = child-done ws _ k _ (suc k) _ s _ schema (is-one plainCount _ _ (ok .schema-is)) (omega arith) (omega arith)
 
     -- the walk to a leaf row
     walk : (leafRow : ℕ) → Sought (suc (suc k)) members leafRow (seek ws leafRow (length ws) (suc k) (suc (suc k)))
@@ -130,7 +137,7 @@ module _ (f : Forest) (ws : List ℕ) (filled : Filled f ws) (messageBytes : ℕ
     walk leafRow =
         let z = at-size at in
         let e = filled-enough f ws filled in
-        seek-law ws leafRow (length ws) (suc k) (suc (suc k)) _ (ok .keyed) members-rowed (rw schema (is-one plainCount _ (ok .schema-is))) (ap (λ x. x .link) schema) refl (omega arith)
+        seek-law ws leafRow _ (length ws) (suc k) (suc (suc k)) _ (ok .keyed) members-rowed (rw schema (is-one plainCount _ _ (ok .schema-is))) (ap (λ x. x .link) schema) refl (omega arith)
 
     -- the walk over its dimensions
     dimensions-are : dimensions ws k (suc (suc k) + size members) ≡ done ds
@@ -138,7 +145,7 @@ module _ (f : Forest) (ws : List ℕ) (filled : Filled f ws) (messageBytes : ℕ
     dimensions-are =
         let z = at-size at in
         let r = few-rows in
-        dimensions-done ws k _ _ t own (ok .shaped) (λ j u v x. rows-below at j u v (later x)) (omega arith) (omega arith) ∙ ap done (sym (table-dimensions k t s members dims ok))
+        dimensions-done ws k _ _ t _ _ own (ok .shaped) (rowed-later (rows-below at)) (omega arith) (omega arith) ∙ ap done (sym (table-dimensions k t s members dims ok))
 
     -- what is answered for a leaf, in its field, by the record's number
     answer : Token → Token → ℕ → Outcome Region
@@ -156,7 +163,7 @@ module _ (f : Forest) (ws : List ℕ) (filled : Filled f ws) (messageBytes : ℕ
         let two : k + 2 ≡ suc (suc k) = omega arith in
         let a = field-row x in
         let b = field-at x in
-        rw (along-table, add-one k, along-schema, two, e, dimensions-are, own, schema, members-rowed fieldRow field (a .0) (a .1), members-rowed leafRow l (b .0) (b .1))
+        rw (along-table, add-one k, along-schema, two, e, dimensions-are, own, schema, rowed-at members-rowed (a .1) .1, rowed-at members-rowed (b .1) .1)
 
     -- where the formulas say
     answer-done : (o : Opening) → t .mark ≡ opens o → (field l : Token) (r : ℕ) → field .payload ≤ l .payload

@@ -1,18 +1,18 @@
 -- The tokens of a forest by their rows: each row has one, and the words that hold the forest's rows have its row there. Assumes nothing.
 use Prim.Native.Nat.{ℕ, suc, _+_, _-_, _*_, _≤_, _<_}
 use mathlib.Core.Path.{_≡_, refl, sym, subst, ap, _∙_}
-use mathlib.Core.List.{List, [], _∷_, _++_, append-assoc}
+use mathlib.Core.List.{List, [], _∷_, _++_, append-assoc, append-nil}
 use native.Mathlib.Omega.{arith}
 use native.Mathlib.Decide.{decLt}
 use lib.ListN.{length, length-append}
 use Rattle.format.specs.Outcome.{done}
 use Rattle.format.specs.Tokens.{Token, Forest, none, node, size}
-use Rattle.format.specs.Rows.{Row, rowAt, rowWords, rowOf, rows, wordsOf, allRows, allWords, zeros, filled}
+use Rattle.format.specs.Rows.{Row, Ancestry, outermost, heldBy, rowAt, rowWords, rowOf, rows, wordsOf, allRows, allWords, zeros, filled}
 use Rattle.format.specs.Read.{wordsAfter}
 use Rattle.format.proofs.RowWords.{length-words, row-there, row-past, zero-kind}
 use Rattle.laws.specs.Places.{At, here, under, later}
 use Rattle.format.proofs.Forests.{length-rows}
-use Rattle.storage.specs.Places.{Field, own, next, Filled}
+use Rattle.storage.specs.Places.{Field, own, next, Filled, Top, firstTop, laterTop, Rowed, noRows, itsRows}
 
 -- ---- rows
 
@@ -87,27 +87,45 @@ field-same (next x) (next y) = field-same x y
 
 -- ---- words
 
--- the rows before a token's, and those after
-at-split : {n k : ℕ} {f v : Forest} {t : Token} → At n f k t v
-    → (before : List Row) × (after : List Row) × (rows n f ≡ before ++ rowOf t (suc k + size v) ∷ after) × (n + length before ≡ k)
-unfolding rows
-at-split {n} (here {below = below} {after = after}) = ([], rows (suc n) below ++ rows (suc n + size below) after, refl, omega arith)
-at-split {n} (under {t = t} {below = below} {after = after} x) =
-    let r = at-split x in
-    let rest = rows (suc n + size below) after in
-    (rowOf t (suc n + size below) ∷ r .0, r .1 ++ rest, ap (λ l. rowOf t (suc n + size below) ∷ l ++ rest) (r .2) ∙ ap (λ l. rowOf t (suc n + size below) ∷ l) (append-assoc (r .0) _ rest), (let e = r .3 in omega arith))
-at-split {n} (later {t = t} {below = below} x) =
-    let r = at-split x in
-    let inner = rows (suc n) below in (
-      rowOf t (suc n + size below) ∷ inner ++ r .0,
-      r .1,
-      ap (λ l. rowOf t (suc n + size below) ∷ inner ++ l) (r .2) ∙ ap (λ l. rowOf t (suc n + size below) ∷ l) (sym (append-assoc inner (r .0) _)),
-      (let e = r .3 in omega (arith, length-append inner (r .0), length-rows (suc n) below)),
-    )
+module _ {ws : List ℕ} {n : ℕ} {a : Ancestry} {t : Token} {below after : Forest} where
+  pub rowed-own : Rowed ws n a (node t below after) → rowAt ws n ≡ rowOf t (suc n + size below) a
+  rowed-own (itsRows o u l) = o
 
--- the words have the row of every token of a forest whose first is at row n
-abbrev pub Rowed : List ℕ → ℕ → Forest → Type 0
-Rowed ws n f = (k : ℕ) (t : Token) (v : Forest) → At n f k t v → rowAt ws k ≡ rowOf t (suc k + size v)
+  pub rowed-under : Rowed ws n a (node t below after) → Rowed ws (suc n) (heldBy n a) below
+  rowed-under (itsRows o u l) = u
+
+  pub rowed-later : Rowed ws n a (node t below after) → Rowed ws (suc n + size below) a after
+  rowed-later (itsRows o u l) = l
+
+-- a token's row, and those below it
+pub rowed-at : {ws : List ℕ} {n k : ℕ} {a : Ancestry} {f v : Forest} {t : Token} → Rowed ws n a f → At n f k t v
+    → (b : Ancestry) × (rowAt ws k ≡ rowOf t (suc k + size v) b) × Rowed ws (suc k) (heldBy k b) v
+rowed-at {a = a} r here = (a, rowed-own r, rowed-under r)
+rowed-at r (under x) = rowed-at (rowed-under r) x
+rowed-at r (later x) = rowed-at (rowed-later r) x
+
+-- the row of a token that no other of the forest holds, and those below it
+pub rowed-top : {ws : List ℕ} {n k : ℕ} {a : Ancestry} {f v : Forest} {t : Token} → Rowed ws n a f → Top n f k t v
+    → (rowAt ws k ≡ rowOf t (suc k + size v) a) × Rowed ws (suc k) (heldBy k a) v
+rowed-top r firstTop = (rowed-own r, rowed-under r)
+rowed-top r (laterTop x) = rowed-top (rowed-later r) x
+
+-- rows that lie in the words, after some and before others
+rows-lie : (before after : List Row) (ws : List ℕ) (n : ℕ) (a : Ancestry) (f : Forest) → length before ≡ n → Rowed (wordsOf (before ++ (rows n a f ++ after)) ++ ws) n a f
+unfolding rows
+rows-lie before after ws n a none e = noRows
+rows-lie before after ws n a (node t below rest) e =
+    let r = rowOf t (suc n + size below) a in
+    let b = rows (suc n) (heldBy n a) below in
+    let c = rows (suc n + size below) a rest in
+    let past : length (before ++ (r ∷ [])) ≡ suc n = length-append before (r ∷ []) ∙ omega arith in
+    let u : (before ++ (r ∷ [])) ++ (b ++ (c ++ after)) ≡ before ++ (r ∷ ((b ++ c) ++ after)) =
+    append-assoc before (r ∷ []) (b ++ (c ++ after)) ∙ ap (λ l. before ++ (r ∷ l)) (sym (append-assoc b c after)) in
+    let l : ((before ++ (r ∷ [])) ++ b) ++ (c ++ after) ≡ before ++ (r ∷ ((b ++ c) ++ after)) = append-assoc (before ++ (r ∷ [])) b (c ++ after) ∙ u in
+    itsRows (row-there before ((b ++ c) ++ after) r ws n e)
+    (subst (λ k. Rowed (wordsOf k ++ ws) (suc n) (heldBy n a) below) u (rows-lie (before ++ (r ∷ [])) (c ++ after) ws (suc n) (heldBy n a) below past))
+    (subst (λ k. Rowed (wordsOf k ++ ws) (suc n + size below) a rest) l
+    (rows-lie ((before ++ (r ∷ [])) ++ b) after ws (suc n + size below) a rest (length-append (before ++ (r ∷ [])) b ∙ omega (arith, past, length-rows (suc n) (heldBy n a) below))))
 
 -- what reading leaves in lent words is so filled
 pub read-fills : (words : ℕ) (f : Forest) → Filled f (wordsAfter words (done f))
@@ -116,19 +134,19 @@ read-fills words f = record { spare = words - length (allWords f); words-are = r
 
 module _ (f : Forest) (ws : List ℕ) (full : Filled f ws) where
   -- every token's row is there
-  pub filled-rows : Rowed ws 0 f
+  pub filled-rows : Rowed ws 0 outermost f
   unfolding allWords allRows
-  filled-rows k t v x =
-      let s = at-split x in
-      rw (full .words-are, s .2) (row-there (s .0) (s .1) _ (zeros (full .spare)) k (let q = s .3 in omega arith))
+  filled-rows =
+      subst (λ l. Rowed l 0 outermost f) (ap (λ l. wordsOf l ++ zeros (full .spare)) (append-nil (rows 0 outermost f)) ∙ sym (full .words-are))
+      (rows-lie [] [] (zeros (full .spare)) 0 outermost f refl)
 
   -- and no row after those
   pub filled-after : (k : ℕ) → size f ≤ k → rowAt ws k .kind ≡ 0
   unfolding allWords allRows
   filled-after k h =
-      rw (full .words-are, row-past (rows 0 f) (zeros (full .spare)) k (omega (arith, length-rows 0 f))) (zero-kind (full .spare) _)
+      rw (full .words-are, row-past (rows 0 outermost f) (zeros (full .spare)) k (omega (arith, length-rows 0 outermost f))) (zero-kind (full .spare) _)
 
   -- there are words for all rows
   pub filled-enough : size f * rowWords ≤ length ws
   unfolding allWords allRows
-  filled-enough = rw (full .words-are) (omega (arith, length-append (wordsOf (rows 0 f)) (zeros (full .spare)), length-words (rows 0 f), length-rows 0 f))
+  filled-enough = rw (full .words-are) (omega (arith, length-append (wordsOf (rows 0 outermost f)) (zeros (full .spare)), length-words (rows 0 outermost f), length-rows 0 outermost f))

@@ -15,14 +15,14 @@ use Rattle.format.specs.Outcome.{Outcome, fault, done, _>>=_, _>>_, guard}
 use Rattle.format.specs.Refusals.{rowsDontFit}
 use Rattle.format.specs.Marks.{Opening, bracket, brace, opens, isLeaf, 'S'}
 use Rattle.format.specs.Tokens.{Token, key as keyKind, leaf as leafKind, schemaRecord, plainCount, Forest, none, node, size}
-use Rattle.format.specs.Rows.{rowAt, rowOf}
-use Rattle.format.specs.Addresses.{isKey, isLeafRow, isSchema, isFixed, isMember, seek}
+use Rattle.format.specs.Rows.{Ancestry, heldBy, rowAt, rowOf}
+use Rattle.format.specs.Addresses.{childOf, isKey, isLeafRow, isSchema, isFixed, isMember, seek}
 use Rattle.laws.specs.Places.{At, here, under, later}
 use Rattle.laws.proofs.Schemas.{Is, groupKind, keyed, Members, noMore, key, leaf, group}
-use Rattle.storage.specs.Places.{Field, own, next}
+use Rattle.storage.specs.Places.{Rowed, Field, own, next}
 use Rattle.storage.proofs.KindNumbers.{key-no-leaf, group-no-leaf}
-use Rattle.storage.proofs.Places.{Rowed, at-size, no-at, field-at}
-use Rattle.storage.proofs.Walks.{is-one, isnt-a, along-done, along-over}
+use Rattle.storage.proofs.Places.{rowed-own, rowed-under, rowed-later, at-size, no-at, field-at}
+use Rattle.storage.proofs.Walks.{is-one, isnt-a, child-done, along-over}
 
 -- no leaf of a forest, whose first token is at row n, stands at a row
 abbrev pub NoLeaf : ℕ → Forest → ℕ → Type 0
@@ -124,87 +124,80 @@ group-visit {n} {leafRow} {t} {below} {after} {inside} {rest} c i s = go (stands
 -- ---- the walk
 
 -- what the rows of keys, leaves, schemas and fixed arrays are
-is-key : {t : Token} (link : ℕ) → Is keyKind (eqb 'S') t → isKey (rowOf t link) ≡ true
+is-key : {t : Token} (link : ℕ) (a : Ancestry) → Is keyKind (eqb 'S') t → isKey (rowOf t link a) ≡ true
 unfolding isKey
-is-key link i = is-one plainCount link i
+is-key link a i = is-one plainCount link a i
 
-leaf-is : {t : Token} (link : ℕ) → Is leafKind isLeaf t → isLeafRow (rowOf t link) ≡ true
+leaf-is : {t : Token} (link : ℕ) (a : Ancestry) → Is leafKind isLeaf t → isLeafRow (rowOf t link a) ≡ true
 unfolding isLeafRow
-leaf-is link i = is-one plainCount link i
+leaf-is link a i = is-one plainCount link a i
 
-leaf-member : {t : Token} (link : ℕ) → Is leafKind isLeaf t → isMember (rowOf t link) ≡ true
+leaf-member : {t : Token} (link : ℕ) (a : Ancestry) → Is leafKind isLeaf t → isMember (rowOf t link a) ≡ true
 unfolding isMember
-leaf-member link i = rw (leaf-is link i)
+leaf-member link a i = rw (leaf-is link a i)
 
-module _ (o : Opening) (link : ℕ) {t : Token} (i : Is (groupKind o) (eqb (opens o)) t) where
-  group-not-leaf : isLeafRow (rowOf t link) ≡ false
+module _ (o : Opening) (link : ℕ) (a : Ancestry) {t : Token} (i : Is (groupKind o) (eqb (opens o)) t) where
+  group-not-leaf : isLeafRow (rowOf t link a) ≡ false
   unfolding isLeafRow
-  group-not-leaf = isnt-a leafKind isLeaf plainCount t link (group-no-leaf o (i .kind-is))
+  group-not-leaf = isnt-a leafKind isLeaf plainCount t link a (group-no-leaf o (i .kind-is))
 
-group-keyed : (o : Opening) (link : ℕ) {t : Token} → Is (groupKind o) (eqb (opens o)) t → isSchema (rowOf t link) ≡ keyed o
+group-keyed : (o : Opening) (link : ℕ) (a : Ancestry) {t : Token} → Is (groupKind o) (eqb (opens o)) t → isSchema (rowOf t link a) ≡ keyed o
 unfolding isSchema opens
-group-keyed bracket link {t} i = isnt-a schemaRecord _ plainCount t link (λ e. let k = i .kind-is in let z : _≡_ {A = ℕ} 0 1 = cc in omega arith)
-group-keyed brace link i = is-one plainCount link i
+group-keyed bracket link a {t} i = isnt-a schemaRecord _ plainCount t link a (λ e. let k = i .kind-is in let z : _≡_ {A = ℕ} 0 1 = cc in omega arith)
+group-keyed brace link a i = is-one plainCount link a i
 
-group-member : (o : Opening) (link : ℕ) {t : Token} → Is (groupKind o) (eqb (opens o)) t → isMember (rowOf t link) ≡ true
+group-member : (o : Opening) (link : ℕ) (a : Ancestry) {t : Token} → Is (groupKind o) (eqb (opens o)) t → isMember (rowOf t link a) ≡ true
 unfolding isMember isFixed opens
-group-member bracket link i = rw (group-not-leaf bracket link i, group-keyed bracket link i, is-one plainCount link i)
-group-member brace link i = rw (group-not-leaf brace link i, group-keyed brace link i)
+group-member bracket link a i = rw (group-not-leaf bracket link a i, group-keyed bracket link a i, is-one plainCount link a i)
+group-member brace link a i = rw (group-not-leaf brace link a i, group-keyed brace link a i)
 
 module _ (ws : List ℕ) (leafRow : ℕ) where
-  module _ (fuel container stop at link : ℕ) (t : Token) (own-row : rowAt ws at ≡ rowOf t link) (fits : isMember (rowOf t link) ≡ true) (up : at < link) (within : link ≤ stop)
+  module _ (a : Ancestry) (fuel container stop at link : ℕ) (t : Token) (own-row : rowAt ws at ≡ rowOf t link (heldBy container a)) (fits : isMember (rowOf t link (heldBy container a)) ≡ true) (up : at < link) (within : link ≤ stop)
       (ends : rowAt ws container .link ≡ stop) where
     -- at a member of a fixed array
     fixed-step : isSchema (rowAt ws container) ≡ false
-        → seek ws leafRow (suc fuel) container at ≡ visit leafRow at link (isLeafRow (rowOf t link)) (seek ws leafRow fuel at (at + 1)) (seek ws leafRow fuel container link)
+        → seek ws leafRow (suc fuel) container at ≡ visit leafRow at link (isLeafRow (rowOf t link (heldBy container a))) (seek ws leafRow fuel at (at + 1)) (seek ws leafRow fuel container link)
     unfolding seek visit if_then_else_ _>>=_
-    fixed-step k = rw (k, ends, along-done ws isMember stop at link t own-row fits up within, own-row)
+    fixed-step k = rw (k, ends, child-done ws isMember container stop at link t a own-row fits up within, own-row)
 
     -- at the key of a schema's member
-    schema-step : isSchema (rowAt ws container) ≡ true → (n : ℕ) (u : Token) → rowAt ws n ≡ rowOf u at → isKey (rowOf u at) ≡ true → n < at
-        → seek ws leafRow (suc fuel) container n ≡ visit leafRow at link (isLeafRow (rowOf t link)) (seek ws leafRow fuel at (at + 1)) (seek ws leafRow fuel container link)
+    schema-step : isSchema (rowAt ws container) ≡ true → (n : ℕ) (u : Token) → rowAt ws n ≡ rowOf u at (heldBy container a) → isKey (rowOf u at (heldBy container a)) ≡ true → n < at
+        → seek ws leafRow (suc fuel) container n ≡ visit leafRow at link (isLeafRow (rowOf t link (heldBy container a))) (seek ws leafRow fuel at (at + 1)) (seek ws leafRow fuel container link)
     unfolding seek visit if_then_else_ _>>=_
-    schema-step k n u r h p = rw (k, ends, along-done ws isKey stop n at u r h p (omega arith), along-done ws isMember stop at link t own-row fits up within, own-row)
+    schema-step k n u r h p = rw (k, ends, child-done ws isKey container stop n at u a r h p (omega arith), child-done ws isMember container stop at link t a own-row fits up within, own-row)
 
   -- no member is left
   end-step : (k : Bool) (fuel container n stop : ℕ) → isSchema (rowAt ws container) ≡ k → rowAt ws container .link ≡ stop → stop ≤ n
       → seek ws leafRow (suc fuel) container n ≡ fault rowsDontFit 0
   unfolding seek if_then_else_ _>>=_
-  end-step true fuel container n stop k e h = rw (k, e, along-over ws isKey stop n h)
-  end-step false fuel container n stop k e h = rw (k, e, along-over ws isMember stop n h)
-
-  -- the rows below a row, and those after it
-  rows-under : {n : ℕ} {t : Token} {below after : Forest} → Rowed ws n (node t below after) → Rowed ws (suc n) below
-  rows-under r k u v x = r k u v (under x)
-
-  rows-later : {n : ℕ} {t : Token} {below after : Forest} → Rowed ws n (node t below after) → Rowed ws (suc n + size below) after
-  rows-later r k u v x = r k u v (later x)
+  end-step true fuel container n stop k e h = rw (k, e, along-over ws (childOf container isKey) stop n h)
+  end-step false fuel container n stop k e h = rw (k, e, along-over ws (childOf container isMember) stop n h)
 
   -- from any member on, with fuel for all that are left
-  pub seek-law : {k : Bool} {f : Forest} (fuel container n stop : ℕ) → Members k false f → Rowed ws n f → isSchema (rowAt ws container) ≡ k → rowAt ws container .link ≡ stop
+  pub seek-law : {k : Bool} {f : Forest} (a : Ancestry) (fuel container n stop : ℕ) → Members k false f → Rowed ws n (heldBy container a) f → isSchema (rowAt ws container) ≡ k → rowAt ws container .link ≡ stop
       → stop ≡ n + size f → size f < fuel → Sought n f leafRow (seek ws leafRow fuel container n)
   unfolding size rowOf
-  seek-law zero container n stop m r c e q h = absurd (omega arith)
-  seek-law {k} (suc fuel) container n stop noMore r c e q h = sought-as _ (end-step k fuel container n stop c e (omega arith)) (missing (λ l v x _. no-at x))
-  seek-law (suc fuel) container n stop (leaf {t = t} i m) r c e q h =
-      sought-as _ (fixed-step fuel container stop n _ t (r n t none here) (leaf-member _ i) (omega arith) (omega arith) e c)
-      (rw (leaf-is _ i) (leaf-visit _ (i .kind-is) (seek-law fuel container _ stop m (rows-later r) c e (omega arith) (omega arith))))
-  seek-law (suc fuel) container n stop (group o {t = t} {below = below} i w u m) r c e q h =
-      let at = r n t below here in
-      sought-as _ (fixed-step fuel container stop n _ t at (group-member o _ i) (omega arith) (omega arith) e c)
-      (rw (group-not-leaf o _ i) (group-visit (group-no-leaf o (i .kind-is))
-      (rw (add-one n) (seek-law fuel n (suc n) _ u (rows-under r) (ap isSchema at ∙ group-keyed o _ i) (ap (λ x. x .link) at) refl (omega arith)))
-      (seek-law fuel container _ stop m (rows-later r) c e (omega arith) (omega arith))))
-  seek-law (suc fuel) container n stop (key {t = k} j (leaf {t = t} i m)) r c e q h =
-      let here-on = rows-later r in
-      sought-as _ (schema-step fuel container stop _ _ t (here-on _ t none here) (leaf-member _ i) (omega arith) (omega arith) e c n k (r n k none here) (is-key _ j) (omega arith))
+  seek-law a zero container n stop m r c e q h = absurd (omega arith)
+  seek-law {k} a (suc fuel) container n stop noMore r c e q h = sought-as _ (end-step k fuel container n stop c e (omega arith)) (missing (λ l v x _. no-at x))
+  seek-law a (suc fuel) container n stop (leaf {t = t} i m) r c e q h =
+      sought-as _ (fixed-step a fuel container stop n _ t (rowed-own r) (leaf-member _ _ i) (omega arith) (omega arith) e c)
+      (rw (leaf-is _ _ i) (leaf-visit _ (i .kind-is) (seek-law a fuel container _ stop m (rowed-later r) c e (omega arith) (omega arith))))
+  seek-law a (suc fuel) container n stop (group o {t = t} {below = below} i w u m) r c e q h =
+      let at = rowed-own r in
+      sought-as _ (fixed-step a fuel container stop n _ t at (group-member o _ _ i) (omega arith) (omega arith) e c)
+      (rw (group-not-leaf o _ _ i) (group-visit (group-no-leaf o (i .kind-is))
+      (rw (add-one n) (seek-law _ fuel n (suc n) _ u (rowed-under r) (ap isSchema at ∙ group-keyed o _ _ i) (ap (λ x. x .link) at) refl (omega arith)))
+      (seek-law a fuel container _ stop m (rowed-later r) c e (omega arith) (omega arith))))
+  seek-law a (suc fuel) container n stop (key {t = k} j (leaf {t = t} i m)) r c e q h =
+      let here-on = rowed-later r in
+      sought-as _ (schema-step a fuel container stop _ _ t (rowed-own here-on) (leaf-member _ _ i) (omega arith) (omega arith) e c n k (rowed-own r) (is-key _ _ j) (omega arith))
       (pass (λ _. key-no-leaf (j .kind-is)) (λ l v x _. no-at x)
-      (rw (leaf-is _ i) (leaf-visit _ (i .kind-is) (seek-law fuel container _ stop m (rows-later here-on) c e (omega arith) (omega arith)))))
-  seek-law (suc fuel) container n stop (key {t = k} j (group o {t = t} {below = below} i w u m)) r c e q h =
-      let here-on = rows-later r in
-      let at = here-on _ t below here in
-      sought-as _ (schema-step fuel container stop _ _ t at (group-member o _ i) (omega arith) (omega arith) e c n k (r n k none here) (is-key _ j) (omega arith))
+      (rw (leaf-is _ _ i) (leaf-visit _ (i .kind-is) (seek-law a fuel container _ stop m (rowed-later here-on) c e (omega arith) (omega arith)))))
+  seek-law a (suc fuel) container n stop (key {t = k} j (group o {t = t} {below = below} i w u m)) r c e q h =
+      let here-on = rowed-later r in
+      let at = rowed-own here-on in
+      sought-as _ (schema-step a fuel container stop _ _ t at (group-member o _ _ i) (omega arith) (omega arith) e c n k (rowed-own r) (is-key _ _ j) (omega arith))
       (pass (λ _. key-no-leaf (j .kind-is)) (λ l v x _. no-at x)
-      (rw (group-not-leaf o _ i) (group-visit (group-no-leaf o (i .kind-is))
-      (rw add-one (seek-law fuel _ _ _ u (rows-under here-on) (ap isSchema at ∙ group-keyed o _ i) (ap (λ x. x .link) at) refl (omega arith)))
-      (seek-law fuel container _ stop m (rows-later here-on) c e (omega arith) (omega arith)))))
+      (rw (group-not-leaf o _ _ i) (group-visit (group-no-leaf o (i .kind-is))
+      (rw add-one (seek-law _ fuel _ _ _ u (rowed-under here-on) (ap isSchema at ∙ group-keyed o _ _ i) (ap (λ x. x .link) at) refl (omega arith)))
+      (seek-law a fuel container _ stop m (rowed-later here-on) c e (omega arith) (omega arith)))))

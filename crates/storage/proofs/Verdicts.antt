@@ -22,7 +22,7 @@ use Rattle.storage.specs.Places.{Filled}
 use Rattle.storage.specs.Addresses.{Address, inPacked, inTable, call}
 use Rattle.storage.specs.Verdicts.{Verdict, wrongRows}
 use Rattle.storage.proofs.KindNumbers.{kind-case}
-use Rattle.storage.proofs.Places.{at-size, at-exists, at-same, filled-rows, filled-after}
+use Rattle.storage.proofs.Places.{at-size, at-exists, at-same, rowed-at, filled-rows, filled-after}
 use Rattle.storage.proofs.Naming.{names-packed, names-table}
 use Rattle.storage.proofs.Stored.{Stored, as-packed, TableOf, tableOf, as-table}
 use Rattle.storage.proofs.Walks.{isnt-a, along-unfit}
@@ -48,7 +48,7 @@ module _ (m : List ℕ) (rowsLent : ℕ) (grammar : Grammar) (f : Forest) (accep
           let x = at-exists f 0 row (omega arith) (omega arith) in
           elim (kind-case (x .0 .kind) k) [
             | inl q ↦ inl (x .0, x .1, x .2, q)
-            | inr c ↦ inr (λ t v y q. c (ap (λ z. z .kind) (at-same (x .2) y .0) ∙ q), rw (filled-rows f ws filled row (x .0) (x .1) (x .2)) (isnt-a k marks highest (x .0) _ c))
+            | inr c ↦ inr (λ t v y q. c (ap (λ z. z .kind) (at-same (x .2) y .0) ∙ q), rw (rowed-at (filled-rows f ws filled) (x .2) .1) (isnt-a k marks highest (x .0) _ _ c))
           ])
     ]
 

@@ -12,40 +12,46 @@ use Rattle.format.specs.Outcome.{fault, done, _>>=_, _>>_, guard}
 use Rattle.format.specs.Limits.{dimensionLimit}
 use Rattle.format.specs.Refusals.{rowsDontFit}
 use Rattle.format.specs.Tokens.{Token, Kind, kindNumber, plainCount, Forest, none, size, counts}
-use Rattle.format.specs.Rows.{Row, rowAt, rowOf}
+use Rattle.format.specs.Rows.{Row, Ancestry, heldBy, rowAt, rowOf}
 use Rattle.format.specs.Bytes.{within}
-use Rattle.format.specs.Addresses.{isA, isDimension, along, dimensionsFrom, dimensions, inside}
-use Rattle.laws.specs.Places.{here, later}
+use Rattle.format.specs.Addresses.{isA, isDimension, childOf, along, dimensionsFrom, dimensions, inside}
 use Rattle.laws.proofs.Schemas.{Is}
 use Rattle.format.proofs.KindNumbers.{same-number}
-use Rattle.storage.proofs.Places.{Rowed}
+use Rattle.storage.specs.Places.{Rowed}
+use Rattle.storage.proofs.Places.{rowed-own, rowed-later}
 use Rattle.laws.proofs.Counts.{Dimensioned, noDimension, oneDimension, Vector, counts-length, Shaped, plain, vector}
 
 -- ---- what a row on the way must be
 
-module _ (kind : Kind) (marks : ℕ → Bool) (highest : ℕ) (t : Token) (link : ℕ) where
+module _ (kind : Kind) (marks : ℕ → Bool) (highest : ℕ) (t : Token) (link : ℕ) (a : Ancestry) where
   -- a token's row is what its kind, mark and order make it
-  pub is-a : t .kind ≡ kind → marks (t .mark) ≡ true → t .order ≤ highest → isA kind marks highest (rowOf t link) ≡ true
+  pub is-a : t .kind ≡ kind → marks (t .mark) ≡ true → t .order ≤ highest → isA kind marks highest (rowOf t link a) ≡ true
   unfolding isA rowOf
   is-a k m o = rw (k, eq-eqb (kindNumber kind) (kindNumber kind) refl, m, le-leb (t .order) highest o)
 
   -- and no other
-  pub isnt-a : (t .kind ≡ kind → ⊥) → isA kind marks highest (rowOf t link) ≡ false
+  pub isnt-a : (t .kind ≡ kind → ⊥) → isA kind marks highest (rowOf t link a) ≡ false
   unfolding isA rowOf
   isnt-a c = rw (ne-eqb (kindNumber (t .kind)) (kindNumber kind) (λ e. c (same-number (t .kind) kind e)))
 
 -- of a row that has the kind's number and no order
-pub is-one : {kind : Kind} {marks : ℕ → Bool} {t : Token} (highest link : ℕ) → Is kind marks t → isA kind marks highest (rowOf t link) ≡ true
-is-one {kind} {marks} {t} highest link i = is-a kind marks highest t link (i .kind-is) (i .mark-is) (let e = i .order-is in omega arith)
+pub is-one : {kind : Kind} {marks : ℕ → Bool} {t : Token} (highest link : ℕ) (a : Ancestry) → Is kind marks t → isA kind marks highest (rowOf t link a) ≡ true
+is-one {kind} {marks} {t} highest link a i = is-a kind marks highest t link a (i .kind-is) (i .mark-is) (let e = i .order-is in omega arith)
 
 module _ (ws : List ℕ) where
   -- ---- a step
 
   -- a row that fits: to its link
-  pub along-done : (fits : Row → Bool) (stop k link : ℕ) (t : Token) → rowAt ws k ≡ rowOf t link → fits (rowOf t link) ≡ true → k < link → link ≤ stop
+  pub along-done : (fits : Row → Bool) (stop k link : ℕ) (t : Token) (a : Ancestry) → rowAt ws k ≡ rowOf t link a → fits (rowOf t link a) ≡ true → k < link → link ≤ stop
       → along ws fits stop k ≡ done link
   unfolding along rowOf guard _>>_
-  along-done fits stop k link t e h p q = rw (e, h, lt-ltb k stop (omega arith), lt-ltb k link p, le-leb link stop q)
+  along-done fits stop k link t a e h p q = rw (e, h, lt-ltb k stop (omega arith), lt-ltb k link p, le-leb link stop q)
+
+  -- a row that fits and names its container
+  pub child-done : (fits : Row → Bool) (container stop k link : ℕ) (t : Token) (a : Ancestry) → rowAt ws k ≡ rowOf t link (heldBy container a) → fits (rowOf t link (heldBy container a)) ≡ true
+      → k < link → link ≤ stop → along ws (childOf container fits) stop k ≡ done link
+  unfolding childOf heldBy rowOf
+  child-done fits container stop k link t a e h p q = along-done (childOf container fits) stop k link t (heldBy container a) e (rw (eq-eqb (container + 1) (container + 1) refl, h)) p q
 
   -- no row before `stop`
   pub along-over : (fits : Row → Bool) (stop k : ℕ) → stop ≤ k → along ws fits stop k ≡ fault rowsDontFit 0
@@ -65,44 +71,44 @@ module _ (ws : List ℕ) where
   -- ---- dimensions
 
   module _ (container stop : ℕ) (link-is : rowAt ws container .link ≡ stop) where
-    from-done : {f : Forest} (fuel n : ℕ) → Dimensioned f → Rowed ws n f → stop ≡ n + size f → size f ≤ fuel → dimensionsFrom ws fuel container n ≡ done (counts f)
+    from-done : {f : Forest} (a : Ancestry) (fuel n : ℕ) → Dimensioned f → Rowed ws n (heldBy container a) f → stop ≡ n + size f → size f ≤ fuel → dimensionsFrom ws fuel container n ≡ done (counts f)
     unfolding dimensionsFrom counts size if_then_else_ _>>=_ isDimension rowOf
-    from-done zero n noDimension r e h = refl
-    from-done (suc fuel) n noDimension r e h = rw (link-is, le-leb stop n (omega arith))
-    from-done zero n (oneDimension i d) r e h = absurd (omega arith)
-    from-done (suc fuel) n (oneDimension {t = t} i d) r e h =
-        let own = r n t none here in
+    from-done a zero n noDimension r e h = refl
+    from-done a (suc fuel) n noDimension r e h = rw (link-is, le-leb stop n (omega arith))
+    from-done a zero n (oneDimension i d) r e h = absurd (omega arith)
+    from-done a (suc fuel) n (oneDimension {t = t} i d) r e h =
+        let own = rowed-own r in
         rw (
           link-is,
           lt-leb stop n (omega arith),
-          along-done isDimension stop n _ t own (is-one plainCount _ i) (omega arith) (omega arith),
-          from-done fuel _ d (λ k u v x. r k u v (later x)) (omega arith) (omega arith),
+          child-done isDimension container stop n _ t a own (is-one plainCount _ _ i) (omega arith) (omega arith),
+          from-done a fuel _ d (rowed-later r) (omega arith) (omega arith),
           own,
         )
 
-    vector-done : {f : Forest} (n : ℕ) → Vector 1 dimensionLimit f → Rowed ws n f → stop ≡ n + size f → size f ≤ length ws
+    vector-done : {f : Forest} (a : Ancestry) (n : ℕ) → Vector 1 dimensionLimit f → Rowed ws n (heldBy container a) f → stop ≡ n + size f → size f ≤ length ws
         → (dimensionsFrom ws (length ws) container n >>= (λ ds. guard (between 1 dimensionLimit (length ds)) rowsDontFit 0 >> done ds)) ≡ done (counts f)
     unfolding guard _>>_ _>>=_ between
-    vector-done {f} n v r e h =
+    vector-done {f} a n v r e h =
         let c = counts-length (v .dimensioned) in
         let x = v .enough in
         let y = v .few in
-        rw (from-done (length ws) n (v .dimensioned) r e h, le-leb 1 (length (counts f)) (omega arith), le-leb (length (counts f)) dimensionLimit (omega arith))
+        rw (from-done a (length ws) n (v .dimensioned) r e h, le-leb 1 (length (counts f)) (omega arith), le-leb (length (counts f)) dimensionLimit (omega arith))
 
-    shaped-done : {highest order count : ℕ} {f : Forest} (n : ℕ) → Shaped highest order count f → Rowed ws n f → stop ≡ n + size f → size f ≤ length ws
+    shaped-done : {highest order count : ℕ} {f : Forest} (a : Ancestry) (n : ℕ) → Shaped highest order count f → Rowed ws n (heldBy container a) f → stop ≡ n + size f → size f ≤ length ws
         → (if eqb order plainCount then done (count ∷ []) else
         (dimensionsFrom ws (length ws) container n >>= (λ ds. guard (between 1 dimensionLimit (length ds)) rowsDontFit 0 >> done ds)))
         ≡ done (if eqb order plainCount then count ∷ [] else counts f)
     unfolding if_then_else_
-    shaped-done n plain r e h = refl
-    shaped-done n (vector o _ v) r e h = rw o (vector-done n v r e h)
+    shaped-done a n plain r e h = refl
+    shaped-done a n (vector o _ v) r e h = rw o (vector-done a n v r e h)
 
   -- what a container's indexes are for
-  pub dimensions-done : {highest : ℕ} {f : Forest} (container n stop : ℕ) (t : Token) → rowAt ws container ≡ rowOf t stop → Shaped highest (t .order) (t .count) f
-      → Rowed ws n f → stop ≡ n + size f → size f ≤ length ws
+  pub dimensions-done : {highest : ℕ} {f : Forest} (container n stop : ℕ) (t : Token) (b a : Ancestry) → rowAt ws container ≡ rowOf t stop b → Shaped highest (t .order) (t .count) f
+      → Rowed ws n (heldBy container a) f → stop ≡ n + size f → size f ≤ length ws
       → dimensions ws container n ≡ done (if eqb (t .order) plainCount then t .count ∷ [] else counts f)
   unfolding dimensions rowOf
-  dimensions-done container n stop t e s r q h = rw e (shaped-done container stop (ap (λ x. x .link) e) n s r q h)
+  dimensions-done container n stop t b a e s r q h = rw e (shaped-done container stop (ap (λ x. x .link) e) a n s r q h)
 
   -- a slot that is inside the message
   pub inside-done : (messageBytes mark start less wide first : ℕ) → start ≡ first + less → first + wide ≤ messageBytes
