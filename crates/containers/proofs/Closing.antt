@@ -9,7 +9,7 @@ use Rattle.format.specs.Outcome.{Outcome, Parsed, fault, done, _>>=_}
 use Rattle.format.specs.Limits.{limit}
 use Rattle.format.specs.Marks.{Opening, bracket, brace, opens}
 use Rattle.format.specs.Tokens.{Token, isKind, plainCount, Forest, none, node, members}
-use Rattle.format.specs.Rows.{rowOf}
+use Rattle.format.specs.Rows.{Ancestry, heldBy, rowOf}
 use Rattle.format.specs.Integers.{integer}
 use Rattle.format.specs.Sequences.{Reader, repeat}
 use Rattle.format.specs.Containers.{containerKind, container, counted}
@@ -30,12 +30,12 @@ unfolding members isKind containerKind if_then_else_
 one-member bracket at start end count f = refl
 one-member brace at start end count f = refl
 
-pub laid-closed : (opening : Opening) (at start shut : ℕ) (o : Parsed Forest) (row count end row′ : ℕ) (before mid now : List ℕ)
-    → Laid o (row + 1) count before mid end row′ → now ≡ store mid row (rowOf (holder opening at start end count) row′)
-    → Laid (closed opening at start shut o) row 1 before now (end + shut) row′
+pub laid-closed : (opening : Opening) (at start shut : ℕ) (o : Parsed Forest) (row count end row′ : ℕ) (ancestry : Ancestry) (before mid now : List ℕ)
+    → Laid o (row + 1) count (heldBy row ancestry) before mid end row′ → now ≡ store mid row (rowOf (holder opening at start end count) row′ ancestry)
+    → Laid (closed opening at start shut o) row 1 ancestry before now (end + shut) row′
 unfolding closed _>>=_ container
-laid-closed opening at start shut o row count end row′ before mid now l e =
-    let r = laid-over (holder opening at start end count) o row count end row′ (end + shut) before mid now l e in
+laid-closed opening at start shut o row count end row′ ancestry before mid now l e =
+    let r = laid-over (holder opening at start end count) o row count end row′ (end + shut) ancestry before mid now l e in
     rw (l .read, l .counted) (rw (one-member opening at start end count (l .forest)) at r)
 
 pub closed-fault : (opening : Opening) (at start shut : ℕ) (o : Parsed Forest) (n p : ℕ) → o ≡ fault n p → closed opening at start shut o ≡ fault n p

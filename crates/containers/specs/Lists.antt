@@ -5,6 +5,7 @@ use mathlib.Core.List.{List}
 use Rattle.format.specs.Outcome.{Parsed, fault, done, _>>=_}
 use Rattle.format.specs.Marks.{Opening}
 use Rattle.format.specs.Tokens.{Forest}
+use Rattle.format.specs.Rows.{Ancestry}
 use Rattle.format.specs.Sequences.{Reader, _⨾_}
 use Rattle.format.specs.Scalars.{key, unmarked}
 use Rattle.format.specs.Containers.{container}
@@ -16,9 +17,9 @@ use Rattle.containers.specs.declared.lists.Listed.the-variants.{Fault, N
 unfoldable pub closed : Opening → ℕ → ℕ → ℕ → Parsed Forest → Parsed Forest
 closed opening at start shut o = o >>= (λ r. done (container opening at start (r .1) (r .0), r .1 + shut))
 
-abbrev pub ListMeets : Listed → Parsed Forest → ℕ → List ℕ → List ℕ → Type 0
-ListMeets (Fault n p) o row before after = o ≡ fault n p
-ListMeets (Next end row′ count) o row before after = Laid o row count before after end row′
+abbrev pub ListMeets : Listed → Parsed Forest → ℕ → Ancestry → List ℕ → List ℕ → Type 0
+ListMeets (Fault n p) o row ancestry before after = o ≡ fault n p
+ListMeets (Next end row′ count) o row ancestry before after = Laid o row count ancestry before after end row′
 
 -- there are as many as bytes at most
 pub record ListEnds (low high lent end row count : ℕ) : Type 0 where

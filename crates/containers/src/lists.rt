@@ -1,6 +1,7 @@
 // What an array or object holds, read one member after another, and the row over it.
 use format::answers::Kind;
 use format::marks::opening_mark;
+use rows::Ancestry;
 use tokens::Step;
 use tokens::entry::Entry;
 use tokens::entry::put;
@@ -13,6 +14,8 @@ ghost use Rattle.format.specs.Marks.{openingOf};
 ghost use Rattle.format.specs.Tokens.{Forest};
 ghost use Rattle.format.specs.Answers.{kindOf};
 ghost use Rattle.format.specs.Containers.{containerKind};
+ghost use Rattle.format.specs.Rows.{heldBy};
+ghost use Rattle.rows.specs.Row.{ancestryOf};
 ghost use Rattle.tokens.specs.Answers.{Meets, Within};
 ghost use Rattle.containers.specs.Lists.{ListMeets, ListWithin, closed};
 
@@ -41,9 +44,10 @@ pub fn close(
     start: usize,
     shut: usize,
     list: Listed,
+    ancestry: Ancestry,
 ) -> Step
     requires { ⌜ (row ≤ at) × (at < start) × (shut ≤ 1) × ListWithin list start limit limit ⌝ }
-    ensures meets { λ r. ⌜ ((o : Parsed Forest) (before : List ℕ) → ListMeets list o (row + 1) before (now (rows .entry)) → Meets r (closed (openingOf brace) at start shut o) row 1 before (now (rows .exit))) ⌝ }
+    ensures meets { λ r. ⌜ ((o : Parsed Forest) (before : List ℕ) → ListMeets list o (row + 1) (heldBy row (ancestryOf ancestry)) before (now (rows .entry)) → Meets r (closed (openingOf brace) at start shut o) row 1 (ancestryOf ancestry) before (now (rows .exit))) ⌝ }
     ensures bounds { λ r. ⌜ ((high lent : ℕ) → ListWithin list start (high - shut) lent → shut ≤ high → Within r start high lent) ⌝ }
 {
     match list {
@@ -66,6 +70,7 @@ pub fn close(
                     order: 0,
                 },
                 next,
+                ancestry,
             );
             Step::Next(after, next)
         }

@@ -9,7 +9,7 @@ use Rattle.format.specs.Outcome.{Parsed, fault, done, _>>=_}
 use Rattle.format.specs.Limits.{limit}
 use Rattle.format.specs.Tokens.{Token, Forest, none, node, alone, size, _⊕_, members, counts}
 use Rattle.format.specs.Indexes.{product}
-use Rattle.format.specs.Rows.{rowOf, rows}
+use Rattle.format.specs.Rows.{Ancestry, rowOf, rows}
 use Rattle.format.specs.Sequences.{Reader, _⨾_}
 use Rattle.format.proofs.Products.{stopped-factor}
 use Rattle.rows.specs.Row.{store}
@@ -58,10 +58,10 @@ further many n p rest e =
 
 -- ---- one dimension
 
-pub laid-one : (t : Token) (row next : ℕ) (before now : List ℕ) → t .count ≤ limit → now ≡ store before row (rowOf t (row + 1))
-    → Laid (done (alone t, next)) row before now next (row + 1) (t .count)
+pub laid-one : (t : Token) (row next : ℕ) (ancestry : Ancestry) (before now : List ℕ) → t .count ≤ limit → now ≡ store before row (rowOf t (row + 1) ancestry)
+    → Laid (done (alone t, next)) row ancestry before now next (row + 1) (t .count)
 unfolding size rows lay product counts
-laid-one t row next before now h e =
+laid-one t row next ancestry before now h e =
     let q : suc row + 0 ≡ row + 1 = omega arith in
     record {
       forest = alone t;
@@ -78,27 +78,27 @@ within-from (Next next row many) low low′ high rowsLent h w = omega arith
 
 -- ---- a loop over dimensions
 
-pub record Going (whole : Parsed Forest) (first : ℕ) (before : List ℕ) (remains : Parsed Forest) (row many : ℕ) (now : List ℕ) : Type 0 where
+pub record Going (whole : Parsed Forest) (first : ℕ) (ancestry : Ancestry) (before : List ℕ) (remains : Parsed Forest) (row many : ℕ) (now : List ℕ) : Type 0 where
   pub count : ℕ
-  pub sofar : Sofar whole first before remains row count now
+  pub sofar : Sofar whole first ancestry before remains row count now
   pub times : capped (productOf whole) ≡ capped (many * productOf remains)
 
 -- nothing is read yet
-pub going-start : (o : Parsed Forest) (first : ℕ) (before : List ℕ) → Going o first before o first 1 before
-going-start o first before = record { count = 0; sofar = sofar-start o first before; times = ap capped (sym (one-mul (productOf o))) }
+pub going-start : (o : Parsed Forest) (first : ℕ) (ancestry : Ancestry) (before : List ℕ) → Going o first ancestry before o first 1 before
+going-start o first ancestry before = record { count = 0; sofar = sofar-start o first ancestry before; times = ap capped (sym (one-mul (productOf o))) }
 
-module _ {whole : Parsed Forest} {first : ℕ} {before : List ℕ} {remains : Parsed Forest} {row many : ℕ} {now : List ℕ}
-    (g : Going whole first before remains row many now) where
+module _ {whole : Parsed Forest} {first : ℕ} {ancestry : Ancestry} {before : List ℕ} {remains : Parsed Forest} {row many : ℕ} {now : List ℕ}
+    (g : Going whole first ancestry before remains row many now) where
   -- what remains is said otherwise
-  pub going-as : (o : Parsed Forest) → remains ≡ o → Going whole first before o row many now
+  pub going-as : (o : Parsed Forest) → remains ≡ o → Going whole first ancestry before o row many now
   going-as o e = record { count = g .count; sofar = sofar-as (g .sofar) o e; times = rw e at (g .times) }
 
   -- one more is read
-  pub going-step : (item rest : Reader) (at next row′ n : ℕ) (after : List ℕ) → remains ≡ (item ⨾ rest) at row → Laid (item at row) row now after next row′ n
-      → (many′ : ℕ) → many′ ≡ capped (many * n) → Going whole first before (rest next row′) row′ many′ after
+  pub going-step : (item rest : Reader) (at next row′ n : ℕ) (after : List ℕ) → remains ≡ (item ⨾ rest) at row → Laid (item at row) row ancestry now after next row′ n
+      → (many′ : ℕ) → many′ ≡ capped (many * n) → Going whole first ancestry before (rest next row′) row′ many′ after
   going-step item rest at next row′ n after e l many′ c =
       let f = l .forest in
-      let t : Tokens.Laid (item at row) row (members f) now after next row′ =
+      let t : Tokens.Laid (item at row) row (members f) ancestry now after next row′ =
       record { forest = f; read = l .read; counted = refl; took = l .took; lie = l .lie } in
       let q : productOf remains ≡ product (counts f) * productOf (rest next row′) =
       ap productOf (e ∙ seq-read item rest at row next f (l .read)) ∙ rw (← l .took) (product-onto f (rest next row′)) in
@@ -113,7 +113,7 @@ module _ {whole : Parsed Forest} {first : ℕ} {before : List ℕ} {remains : Pa
   going-fault n p e = sofar-fault (g .sofar) n p e
 
   -- there is no more
-  pub going-end : (end : ℕ) → remains ≡ done (none, end) → many ≤ limit + 1 → Laid whole first before now end row many
+  pub going-end : (end : ℕ) → remains ≡ done (none, end) → many ≤ limit + 1 → Laid whole first ancestry before now end row many
   unfolding productOf product counts
   going-end end e h =
       let l = sofar-end (g .sofar) end e in

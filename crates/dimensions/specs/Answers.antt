@@ -7,7 +7,7 @@ use Rattle.format.specs.Limits.{limit}
 use Rattle.format.specs.Marks.{width}
 use Rattle.format.specs.Tokens.{Forest, size, counts}
 use Rattle.format.specs.Indexes.{product}
-use Rattle.format.specs.Rows.{rows}
+use Rattle.format.specs.Rows.{Ancestry, rows}
 use Rattle.format.specs.Sequences.{Reader}
 use Rattle.format.specs.Dimensions as Dimensions
 use Rattle.rows.specs.Overlay.{lay}
@@ -24,17 +24,17 @@ capped n = min n (limit + 1)
 -- ---- dimensions
 
 -- dimensions were read and now lie in the words from `row` on, as far as these reach; and their product
-pub record Laid (o : Parsed Forest) (row : ℕ) (before after : List ℕ) (next row′ many : ℕ) : Type 0 where
+pub record Laid (o : Parsed Forest) (row : ℕ) (ancestry : Ancestry) (before after : List ℕ) (next row′ many : ℕ) : Type 0 where
   pub forest : Forest
   pub read : o ≡ done (forest, next)
   pub took : row′ ≡ row + size forest
   pub times : many ≡ capped (product (counts forest))
-  pub lie : after ≡ lay before row (rows row forest)
+  pub lie : after ≡ lay before row (rows row ancestry forest)
 
 -- the answer to a reader of dimensions: its refusal, whatever the words then hold; or what was read
-abbrev pub Meets : Dims → Parsed Forest → ℕ → List ℕ → List ℕ → Type 0
-Meets (Fault n p) o row before after = o ≡ fault n p
-Meets (Next next row′ many) o row before after = Laid o row before after next row′ many
+abbrev pub Meets : Dims → Parsed Forest → ℕ → Ancestry → List ℕ → List ℕ → Type 0
+Meets (Fault n p) o row ancestry before after = o ≡ fault n p
+Meets (Next next row′ many) o row ancestry before after = Laid o row ancestry before after next row′ many
 
 -- where they end, and how many elements they give
 abbrev pub Within : Dims → ℕ → ℕ → ℕ → Type 0

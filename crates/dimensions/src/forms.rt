@@ -3,6 +3,7 @@ use crate::Dims;
 use format::answers::Kind;
 use format::limits::LIMIT;
 use format::marks::Mark;
+use rows::Ancestry;
 use scan::integers::Parsed;
 use scan::integers::number;
 use tokens::entry::Entry;
@@ -11,6 +12,7 @@ ghost use Prim.Native.Nat.{_+_, _≤_, _<_};
 ghost use lib.ListN.{length};
 ghost use Rattle.format.specs.Marks.{width as widthOf};
 ghost use Rattle.format.specs.Dimensions.{dimension as dimensionAt, marked as markedAt, bare as bareAt};
+ghost use Rattle.rows.specs.Row.{ancestryOf};
 ghost use Rattle.tokens.specs.Answers.{Here};
 ghost use Rattle.dimensions.specs.Answers.{Meets, Within, itemOf, Wide};
 
@@ -29,9 +31,10 @@ fn dimension(
     start: usize,
     at: usize,
     row: usize,
+    ancestry: Ancestry,
 ) -> Dims
     requires { ⌜ Here (now message) lent at row × (at ≤ start) × (row < start + widthOf mark) ⌝ }
-    ensures meets { λ r. ⌜ Meets r (dimensionAt (now (message .entry)) lent mark start at row) row (now (rows .entry)) (now (rows .exit)) ⌝ }
+    ensures meets { λ r. ⌜ Meets r (dimensionAt (now (message .entry)) lent mark start at row) row (ancestryOf ancestry) (now (rows .entry)) (now (rows .exit)) ⌝ }
     ensures bounds { λ r. ⌜ Within r start (length (now (message .entry))) lent ⌝ }
 {
     if lent <= row {
@@ -55,6 +58,7 @@ fn dimension(
                     order: 0,
                 },
                 link,
+                ancestry,
             );
             Dims::Next(next, link, n as usize)
         }
@@ -62,9 +66,16 @@ fn dimension(
 }
 
 // An integer record.
-pub fn marked(message: &[u8], rows: &mut [u32], lent: usize, at: usize, row: usize) -> Dims
+pub fn marked(
+    message: &[u8],
+    rows: &mut [u32],
+    lent: usize,
+    at: usize,
+    row: usize,
+    ancestry: Ancestry,
+) -> Dims
     requires { ⌜ Here (now message) lent at row ⌝ }
-    ensures meets { λ r. ⌜ Meets r (markedAt (now (message .entry)) lent at row) row (now (rows .entry)) (now (rows .exit)) ⌝ }
+    ensures meets { λ r. ⌜ Meets r (markedAt (now (message .entry)) lent at row) row (ancestryOf ancestry) (now (rows .entry)) (now (rows .exit)) ⌝ }
     ensures bounds { λ r. ⌜ Within r (at + 1) (length (now (message .entry))) lent ⌝ }
 {
     let end = message.len();
@@ -75,20 +86,28 @@ pub fn marked(message: &[u8], rows: &mut [u32], lent: usize, at: usize, row: usi
     if !Mark(mark).is_integer() {
         return Dims::Fault(3, at);
     }
-    dimension(message, rows, lent, mark, at + 1, at, row)
+    dimension(message, rows, lent, mark, at + 1, at, row, ancestry)
 }
 
 // A bare integer: its place is its first byte.
-fn bare(message: &[u8], rows: &mut [u32], lent: usize, mark: u8, at: usize, row: usize) -> Dims
+fn bare(
+    message: &[u8],
+    rows: &mut [u32],
+    lent: usize,
+    mark: u8,
+    at: usize,
+    row: usize,
+    ancestry: Ancestry,
+) -> Dims
     requires { ⌜ Here (now message) lent at row × (0 < widthOf mark) ⌝ }
-    ensures meets { λ r. ⌜ Meets r (bareAt (now (message .entry)) lent mark at row) row (now (rows .entry)) (now (rows .exit)) ⌝ }
+    ensures meets { λ r. ⌜ Meets r (bareAt (now (message .entry)) lent mark at row) row (ancestryOf ancestry) (now (rows .entry)) (now (rows .exit)) ⌝ }
     ensures bounds { λ r. ⌜ Within r at (length (now (message .entry))) lent ⌝ }
 {
     let end = message.len();
     if end <= at {
         return Dims::Fault(2, end);
     }
-    dimension(message, rows, lent, mark, at, at, row)
+    dimension(message, rows, lent, mark, at, at, row, ancestry)
 }
 
 // One of several.
@@ -99,13 +118,14 @@ pub fn item(
     form: Form,
     at: usize,
     row: usize,
+    ancestry: Ancestry,
 ) -> Dims
     requires { ⌜ Here (now message) lent at row × Wide form ⌝ }
-    ensures meets { λ r. ⌜ Meets r (itemOf (now (message .entry)) lent form at row) row (now (rows .entry)) (now (rows .exit)) ⌝ }
+    ensures meets { λ r. ⌜ Meets r (itemOf (now (message .entry)) lent form at row) row (ancestryOf ancestry) (now (rows .entry)) (now (rows .exit)) ⌝ }
     ensures bounds { λ r. ⌜ Within r at (length (now (message .entry))) lent ⌝ }
 {
     match form {
-        Form::Marked => marked(message, rows, lent, at, row),
-        Form::Bare(mark) => bare(message, rows, lent, mark, at, row),
+        Form::Marked => marked(message, rows, lent, at, row, ancestry),
+        Form::Bare(mark) => bare(message, rows, lent, mark, at, row, ancestry),
     }
 }

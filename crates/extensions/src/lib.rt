@@ -2,6 +2,7 @@
 use format::answers::Kind;
 use format::limits::ID_LIMIT;
 use format::marks::Mark;
+use rows::Ancestry;
 use scan::integers::Parsed;
 use scan::integers::integer;
 use scan::integers::integer_to;
@@ -14,6 +15,7 @@ ghost use mathlib.Core.Path.{_≡_};
 ghost use Prim.Native.Nat.{_+_, _<_};
 ghost use lib.ListN.{length};
 ghost use Rattle.format.specs.Extensions.{sizeOf, extension as extensionAt};
+ghost use Rattle.rows.specs.Row.{ancestryOf};
 ghost use Rattle.tokens.specs.Answers.{Meets, Here, Within};
 ghost use Rattle.extensions.specs.Heads.{HeadMeets, HeadWithin};
 
@@ -64,9 +66,16 @@ fn head_at(message: &[u8], at: usize) -> Head
 }
 
 // The extension at `at`.
-pub fn extension(message: &[u8], rows: &mut [u32], lent: usize, at: usize, row: usize) -> Step
+pub fn extension(
+    message: &[u8],
+    rows: &mut [u32],
+    lent: usize,
+    at: usize,
+    row: usize,
+    ancestry: Ancestry,
+) -> Step
     requires { ⌜ Here (now message) lent at row × (at < length (now message)) ⌝ }
-    ensures meets { λ r. ⌜ Meets r (extensionAt (now (message .entry)) lent at row) row 1 (now (rows .entry)) (now (rows .exit)) ⌝ }
+    ensures meets { λ r. ⌜ Meets r (extensionAt (now (message .entry)) lent at row) row 1 (ancestryOf ancestry) (now (rows .entry)) (now (rows .exit)) ⌝ }
     ensures bounds { λ r. ⌜ Within r (at + 1) (length (now (message .entry))) lent ⌝ }
 {
     if lent <= row {
@@ -94,6 +103,7 @@ pub fn extension(message: &[u8], rows: &mut [u32], lent: usize, at: usize, row: 
                             order: 0,
                         },
                         link,
+                        ancestry,
                     );
                     Step::Next(next, link)
                 }

@@ -9,7 +9,7 @@ use Rattle.format.specs.Conditions.{if_then_else_}
 use Rattle.format.specs.Outcome.{Parsed, fault}
 use Rattle.format.specs.Marks.{Opening, openingOf, isScalar, 'E', 'H', 'S', '[', left-brace}
 use Rattle.format.specs.Tokens.{Forest, size, members}
-use Rattle.format.specs.Rows.{rows}
+use Rattle.format.specs.Rows.{Ancestry, rows}
 use Rattle.format.specs.Sequences.{Reader}
 use Rattle.rows.specs.Overlay.{lay}
 use Rattle.tokens.specs.Answers.{onto, Laid, Ends}
@@ -48,18 +48,18 @@ itemOf (Stopped n p) = Fault n p
 itemOf (Went next row) = Next next row
 
 -- a container opens, after a key in an object: what reads it reads the rest
-pub record Opened (o : (Opening → Reader) → Parsed Forest) (row : ℕ) (before after : List ℕ) (opening : Opening) (at row′ : ℕ) : Type 0 where
+pub record Opened (o : (Opening → Reader) → Parsed Forest) (row : ℕ) (ancestry : Ancestry) (before after : List ℕ) (opening : Opening) (at row′ : ℕ) : Type 0 where
   pub forest : Forest
   pub is : (nested : Opening → Reader) → o nested ≡ onto forest (nested opening at row′)
   pub counted : members forest ≡ 0
   pub took : row′ ≡ row + size forest
-  pub lie : after ≡ lay before row (rows row forest)
+  pub lie : after ≡ lay before row (rows row ancestry forest)
 
 -- the answer to a reader of one member, whatever reads a container in it
-abbrev pub ItemMeets : Item → ((Opening → Reader) → Parsed Forest) → ℕ → List ℕ → List ℕ → Type 0
-ItemMeets (Fault n p) o row before after = (nested : Opening → Reader) → o nested ≡ fault n p
-ItemMeets (Next next row′) o row before after = (nested : Opening → Reader) → Laid (o nested) row 1 before after next row′
-ItemMeets (Opens b at row′) o row before after = Opened o row before after (openingOf b) at row′
+abbrev pub ItemMeets : Item → ((Opening → Reader) → Parsed Forest) → ℕ → Ancestry → List ℕ → List ℕ → Type 0
+ItemMeets (Fault n p) o row ancestry before after = (nested : Opening → Reader) → o nested ≡ fault n p
+ItemMeets (Next next row′) o row ancestry before after = (nested : Opening → Reader) → Laid (o nested) row 1 ancestry before after next row′
+ItemMeets (Opens b at row′) o row ancestry before after = Opened o row ancestry before after (openingOf b) at row′
 
 -- where it ends, or where the container opens
 pub record Starts (low high rowsLent at row : ℕ) : Type 0 where

@@ -3,6 +3,7 @@ use extensions::extension;
 use format::answers::Edition;
 use format::answers::Kind;
 use format::marks::Mark;
+use rows::Ancestry;
 use scan::noops::skip;
 use tokens::Step;
 use tokens::scalars::key;
@@ -14,6 +15,7 @@ ghost use Rattle.format.specs.Marks.{openingOf};
 ghost use Rattle.format.specs.Answers.{grammarOf};
 ghost use Rattle.format.specs.Read.{valueBy};
 ghost use Rattle.format.specs.Containers.{items};
+ghost use Rattle.rows.specs.Row.{ancestryOf};
 ghost use Rattle.tokens.specs.Answers.{Here};
 ghost use Rattle.items.specs.Items.{classOf, class, itemOf, ItemMeets, ItemWithin};
 
@@ -73,9 +75,10 @@ pub fn value_start(
     lent: usize,
     at: usize,
     row: usize,
+    ancestry: Ancestry,
 ) -> Item
     requires { ⌜ Here (now message) lent at row ⌝ }
-    ensures meets { λ r. ⌜ ItemMeets r (λ nested. valueBy (now (message .entry)) lent (grammarOf edition) nested at row) row (now (rows .entry)) (now (rows .exit)) ⌝ }
+    ensures meets { λ r. ⌜ ItemMeets r (λ nested. valueBy (now (message .entry)) lent (grammarOf edition) nested at row) row (ancestryOf ancestry) (now (rows .entry)) (now (rows .exit)) ⌝ }
     ensures bounds { λ r. ⌜ ItemWithin r at (length (now (message .entry))) lent ⌝ }
 {
     let end = message.len();
@@ -84,8 +87,17 @@ pub fn value_start(
     }
     let mark = message[at];
     match class_of(edition, mark) {
-        Class::Scalar => whole(scalar(message, rows, lent, mark, at + 1, at, row)),
-        Class::Text => whole(text(message, rows, lent, Kind::Text, Mark::TEXT, at, row)),
+        Class::Scalar => whole(scalar(message, rows, lent, mark, at + 1, at, row, ancestry)),
+        Class::Text => whole(text(
+            message,
+            rows,
+            lent,
+            Kind::Text,
+            Mark::TEXT,
+            at,
+            row,
+            ancestry,
+        )),
         Class::HighPrecision => {
             whole(text(
                 message,
@@ -95,11 +107,12 @@ pub fn value_start(
                 Mark::HIGH_PRECISION,
                 at,
                 row,
+                ancestry,
             ))
         }
         Class::Bracket => Item::Opens(false, at, row),
         Class::Brace => Item::Opens(true, at, row),
-        Class::Extension => whole(extension(message, rows, lent, at, row)),
+        Class::Extension => whole(extension(message, rows, lent, at, row, ancestry)),
         Class::Other => Item::Fault(3, at),
     }
 }
@@ -113,19 +126,20 @@ pub fn member_start(
     brace: bool,
     at: usize,
     row: usize,
+    ancestry: Ancestry,
 ) -> Item
     requires { ⌜ Here (now message) lent at row ⌝ }
-    ensures meets { λ r. ⌜ ItemMeets r (λ nested. items (now (message .entry)) lent (openingOf brace) (valueBy (now (message .entry)) lent (grammarOf edition) nested) at row) row (now (rows .entry)) (now (rows .exit)) ⌝ }
+    ensures meets { λ r. ⌜ ItemMeets r (λ nested. items (now (message .entry)) lent (openingOf brace) (valueBy (now (message .entry)) lent (grammarOf edition) nested) at row) row (ancestryOf ancestry) (now (rows .entry)) (now (rows .exit)) ⌝ }
     ensures bounds { λ r. ⌜ ItemWithin r at (length (now (message .entry))) lent ⌝ }
 {
     if !brace {
-        return value_start(edition, message, rows, lent, at, row);
+        return value_start(edition, message, rows, lent, at, row, ancestry);
     }
-    match key(message, rows, lent, at, row) {
+    match key(message, rows, lent, at, row, ancestry) {
         Step::Fault(n, p) => Item::Fault(n, p),
         Step::Next(next, below) => {
             let here = skip(message, next);
-            value_start(edition, message, rows, lent, here, below)
+            value_start(edition, message, rows, lent, here, below, ancestry)
         }
     }
 }

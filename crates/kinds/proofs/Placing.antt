@@ -14,7 +14,7 @@ use Rattle.format.specs.Marks.{Opening, opens}
 use Rattle.format.specs.Tokens.{Kind, key, leaf as leafKind, uncounted, Forest, none, node, size, _⊕_, isKind, members}
 use Rattle.format.specs.Records.{memberWidth, totalWidth, atOffset, placed}
 use Rattle.format.specs.Schemas.{leaf, group}
-use Rattle.format.specs.Rows.{rowOf, rows}
+use Rattle.format.specs.Rows.{Ancestry, heldBy, rowOf, rows}
 use Rattle.rows.specs.Row.{store}
 use Rattle.rows.specs.Overlay.{lay}
 use Rattle.rows.proofs.Overlay.{lay-front}
@@ -48,9 +48,9 @@ members-placed n (node t below after) = go (isKind key (t .kind)) refl (members-
     go false k e f = rw (k, f)
 
 -- the rows of one forest and then those of another, each with its offset
-pub lay-placed : (ws : List ℕ) (row n : ℕ) (f g : Forest)
-    → lay (lay ws row (rows row (placed n f))) (row + size f) (rows (row + size f) (placed (n + totalWidth f) g)) ≡ lay ws row (rows row (placed n (f ⊕ g)))
-lay-placed ws row n f g = rw (placed-append n f g, ← size-placed n f) (lay-forest ws row (placed n f) (placed (n + totalWidth f) g))
+pub lay-placed : (ws : List ℕ) (row n : ℕ) (a : Ancestry) (f g : Forest)
+    → lay (lay ws row (rows row a (placed n f))) (row + size f) (rows (row + size f) a (placed (n + totalWidth f) g)) ≡ lay ws row (rows row a (placed n (f ⊕ g)))
+lay-placed ws row n a f g = rw (placed-append n f g, ← size-placed n f) (lay-forest ws row a (placed n f) (placed (n + totalWidth f) g))
 
 -- ---- keys: they have no width, and no offset
 
@@ -89,31 +89,31 @@ module _ (kind : Kind) (o : Opening) (at : ℕ) (f : Forest) where
   group-width k = rw (k, add-zero)
 
 -- its row, stored after those of its members
-pub group-lies : (kind : Kind) (o : Opening) (at row offset link : ℕ) (f : Forest) (ws : List ℕ) → isKind key kind ≡ false → link ≡ suc row + size f
-    → store (lay ws (row + 1) (rows (row + 1) (placed offset f))) row
-    (rowOf (groupAt kind (opens o) at offset (totalWidth f) (members f)) link)
-    ≡ lay ws row (rows row (placed offset (group kind o at f)))
+pub group-lies : (kind : Kind) (o : Opening) (at row offset link : ℕ) (a : Ancestry) (f : Forest) (ws : List ℕ) → isKind key kind ≡ false → link ≡ suc row + size f
+    → store (lay ws (row + 1) (rows (row + 1) (heldBy row a) (placed offset f))) row
+    (rowOf (groupAt kind (opens o) at offset (totalWidth f) (members f)) link a)
+    ≡ lay ws row (rows row a (placed offset (group kind o at f)))
 unfolding group placed atOffset if_then_else_ rows
-group-lies kind o at row offset link f ws k e =
+group-lies kind o at row offset link a f ws k e =
     let p : row + 1 ≡ suc row = omega arith in
-    rw (k, e, p, ← size-placed offset f, append-nil) (lay-front ws row _ (rows (suc row) (placed offset f)))
+    rw (k, e, p, ← size-placed offset f, append-nil (rows (suc row) (heldBy row a) (placed offset f))) (lay-front ws row _ (rows (suc row) (heldBy row a) (placed offset f)))
 
 -- ---- a leaf
 
-pub read-leaf : (mark at w next row offset offset′ : ℕ) (before now : List ℕ) → offset′ ≡ min (offset + w) over
-    → now ≡ store before row (rowOf (uncounted leafKind mark at offset w) (row + 1))
-    → Read (done (leaf mark at w, next)) row offset before now next (row + 1) offset′
+pub read-leaf : (mark at w next row offset offset′ : ℕ) (ancestry : Ancestry) (before now : List ℕ) → offset′ ≡ min (offset + w) over
+    → now ≡ store before row (rowOf (uncounted leafKind mark at offset w) (row + 1) ancestry)
+    → Read (done (leaf mark at w, next)) row offset ancestry before now next (row + 1) offset′
 unfolding leaf members totalWidth memberWidth placed atOffset isKind if_then_else_ size rows lay
-read-leaf mark at w next row offset offset′ before now e h =
+read-leaf mark at w next row offset offset′ ancestry before now e h =
     let q : suc row + 0 ≡ row + 1 = omega arith in
     record { forest = leaf mark at w; read = refl; counted = refl; took = omega arith; wide = e ∙ ap (λ n. min (offset + n) over) (omega arith); lie = λ _. rw q h }
 
 -- ---- what the caller makes of a kind that was read
 
-module _ {o : Parsed Forest} {row offset : ℕ} {before after : List ℕ} {next row′ offset′ : ℕ} (r : Read o row offset before after next row′ offset′) where
+module _ {o : Parsed Forest} {row offset : ℕ} {ancestry : Ancestry} {before after : List ℕ} {next row′ offset′ : ℕ} (r : Read o row offset ancestry before after next row′ offset′) where
   -- its tokens with their offsets, as one reader that lays tokens would have laid them
   pub read-placed : offset′ ≤ recordLimit
-      → (members (placed offset (r .forest)) ≡ 1) × (row′ ≡ row + size (placed offset (r .forest))) × (after ≡ lay before row (rows row (placed offset (r .forest))))
+      → (members (placed offset (r .forest)) ≡ 1) × (row′ ≡ row + size (placed offset (r .forest))) × (after ≡ lay before row (rows row ancestry (placed offset (r .forest))))
   read-placed h = (members-placed offset (r .forest) ∙ r .counted, rw (size-placed offset (r .forest)) (r .took), r .lie h)
 
   -- whether it passes a record's limit is told by the offset after it

@@ -8,7 +8,7 @@ use Rattle.format.specs.Outcome.{Parsed, fault, _>>=_}
 use Rattle.format.specs.Limits.{recordLimit}
 use Rattle.format.specs.Tokens.{Forest, none, size, _⊕_, members}
 use Rattle.format.specs.Records.{totalWidth, placed}
-use Rattle.format.specs.Rows.{rows}
+use Rattle.format.specs.Rows.{Ancestry, rows}
 use Rattle.format.specs.Sequences.{Reader, _⨾_}
 use Rattle.format.specs.Scalars.{key}
 use Rattle.format.proofs.Forests.{size-append, members-append, width-append}
@@ -23,15 +23,15 @@ use Rattle.kinds.specs.declared.starts.Start.the-variants.{Ended, Array,
 use Rattle.kinds.proofs.Placing.{lay-placed, keys-width, keys-placed}
 
 -- nothing is read yet
-pub sofar-start : (o remains : Parsed Forest) (first offset : ℕ) (before : List ℕ) → offset ≤ over → o ≡ remains → Sofar o first offset before remains first 0 offset before
+pub sofar-start : (o remains : Parsed Forest) (first offset : ℕ) (ancestry : Ancestry) (before : List ℕ) → offset ≤ over → o ≡ remains → Sofar o first offset ancestry before remains first 0 offset before
 unfolding size members totalWidth placed rows lay
-sofar-start o remains first offset before h e =
+sofar-start o remains first offset ancestry before h e =
     record { forest = none; is = e ∙ sym (onto-none remains); counted = refl; took = omega arith; wide = omega arith; lie = λ _. refl }
 
 -- a key is read
-pub sofar-key : (item rest : Reader) (at row offset next row′ : ℕ) (before after : List ℕ) → offset ≤ over → Laid (item at row) row 0 before after next row′
-    → Sofar ((item ⨾ rest) at row) row offset before (rest next row′) row′ 0 offset after
-sofar-key item rest at row offset next row′ before after h l =
+pub sofar-key : (item rest : Reader) (at row offset next row′ : ℕ) (ancestry : Ancestry) (before after : List ℕ) → offset ≤ over → Laid (item at row) row 0 ancestry before after next row′
+    → Sofar ((item ⨾ rest) at row) row offset ancestry before (rest next row′) row′ 0 offset after
+sofar-key item rest at row offset next row′ ancestry before after h l =
     let w = keys-width (l .forest) (l .counted) in
     record {
       forest = l .forest;
@@ -42,26 +42,26 @@ sofar-key item rest at row offset next row′ before after h l =
       lie = λ _. rw (keys-placed offset (l .forest) (l .counted)) (l .lie);
     }
 
-module _ {whole : Parsed Forest} {first offset : ℕ} {before : List ℕ} {remains : Parsed Forest} {row count offset′ : ℕ} {now : List ℕ}
-    (s : Sofar whole first offset before remains row count offset′ now) where
+module _ {whole : Parsed Forest} {first offset : ℕ} {ancestry : Ancestry} {before : List ℕ} {remains : Parsed Forest} {row count offset′ : ℕ} {now : List ℕ}
+    (s : Sofar whole first offset ancestry before remains row count offset′ now) where
   -- what remains is said otherwise
-  pub sofar-as : (o : Parsed Forest) → remains ≡ o → Sofar whole first offset before o row count offset′ now
+  pub sofar-as : (o : Parsed Forest) → remains ≡ o → Sofar whole first offset ancestry before o row count offset′ now
   sofar-as o e = record { forest = s .forest; is = rw e at (s .is); counted = s .counted; took = s .took; wide = s .wide; lie = s .lie }
 
   -- one forest more
   grown : (g : Forest) (offset″ : ℕ) (after : List ℕ) → offset″ ≡ min (offset′ + totalWidth g) over
-      → (offset″ ≤ recordLimit → after ≡ lay now row (rows row (placed offset′ g)))
-      → offset″ ≤ recordLimit → after ≡ lay before first (rows first (placed offset (s .forest ⊕ g)))
+      → (offset″ ≤ recordLimit → after ≡ lay now row (rows row ancestry (placed offset′ g)))
+      → offset″ ≤ recordLimit → after ≡ lay before first (rows first ancestry (placed offset (s .forest ⊕ g)))
   grown g offset″ after w l h =
       let f = s .forest in
       let e : offset′ ≡ offset + totalWidth f = omega (arith, s .wide) in
       let k : offset′ ≤ recordLimit = omega (arith, s .wide) in
-      l h ∙ rw (s .lie k, s .took, e) (lay-placed before first offset f g)
+      l h ∙ rw (s .lie k, s .took, e) (lay-placed before first offset ancestry f g)
 
   -- one more is read
   pub sofar-step : (item rest : Reader) (at next row′ offset″ : ℕ) (after : List ℕ) → remains ≡ (item ⨾ rest) at row
-      → Read (item at row) row offset′ now after next row′ offset″
-      → Sofar whole first offset before (rest next row′) row′ (count + 1) offset″ after
+      → Read (item at row) row offset′ ancestry now after next row′ offset″
+      → Sofar whole first offset ancestry before (rest next row′) row′ (count + 1) offset″ after
   sofar-step item rest at next row′ offset″ after e l =
       let f = s .forest in
       let g = l .forest in
@@ -81,8 +81,8 @@ module _ {whole : Parsed Forest} {first offset : ℕ} {before : List ℕ} {remai
   sofar-fault n p e = s .is ∙ rw e
 
 -- what remains is one kind, after keys alone
-pub sofar-meets : (k : Kinds) (after : List ℕ) {whole remains : Parsed Forest} {first offset row : ℕ} {before now : List ℕ}
-    → Sofar whole first offset before remains row 0 offset now → Meets k remains row offset now after → Meets k whole first offset before after
+pub sofar-meets : (k : Kinds) (after : List ℕ) {whole remains : Parsed Forest} {first offset row : ℕ} {ancestry : Ancestry} {before now : List ℕ}
+    → Sofar whole first offset ancestry before remains row 0 offset now → Meets k remains row offset ancestry now after → Meets k whole first offset ancestry before after
 unfolding onto _>>=_
 sofar-meets (Fault n p) after s e = sofar-fault s n p e
 sofar-meets (Next next row′ offset′) after s l =
@@ -98,9 +98,9 @@ sofar-meets (Next next row′ offset′) after s l =
     }
 
 -- keys, and more keys
-sofar-keys : {whole middle remains : Parsed Forest} {first offset row row′ : ℕ} {before now after : List ℕ}
-    → Sofar whole first offset before middle row 0 offset now → Sofar middle row offset now remains row′ 0 offset after
-    → Sofar whole first offset before remains row′ 0 offset after
+sofar-keys : {whole middle remains : Parsed Forest} {first offset row row′ : ℕ} {ancestry : Ancestry} {before now after : List ℕ}
+    → Sofar whole first offset ancestry before middle row 0 offset now → Sofar middle row offset ancestry now remains row′ 0 offset after
+    → Sofar whole first offset ancestry before remains row′ 0 offset after
 sofar-keys {remains = remains} {offset = offset} {after = after} s t =
     let f = s .forest in
     let g = t .forest in
@@ -114,16 +114,16 @@ sofar-keys {remains = remains} {offset = offset} {after = after} s t =
     }
 
 -- where a kind begins after its key
-pub start-key : (r : Start) (m : List ℕ) (rowsLent levels at row offset next row′ : ℕ) (before mid after : List ℕ) → offset ≤ over
-    → Laid (key m rowsLent at row) row 0 before mid next row′
-    → StartMeets r m rowsLent levels (kindAt m rowsLent levels next row′) row′ offset mid after
-    → StartMeets r m rowsLent levels (fieldAt m rowsLent levels at row) row offset before after
-start-key (Ended k) m rowsLent levels at row offset next row′ before mid after h l s =
-    sofar-meets k after (sofar-key (key m rowsLent) (kindAt m rowsLent levels) at row offset next row′ before mid h l) s
-start-key (Array a r) m rowsLent levels at row offset next row′ before mid after h l s =
-    sofar-keys (sofar-key (key m rowsLent) (kindAt m rowsLent levels) at row offset next row′ before mid h l) s
-start-key (Record a r) m rowsLent levels at row offset next row′ before mid after h l s =
-    sofar-keys (sofar-key (key m rowsLent) (kindAt m rowsLent levels) at row offset next row′ before mid h l) s
+pub start-key : (r : Start) (m : List ℕ) (rowsLent levels at row offset next row′ : ℕ) (ancestry : Ancestry) (before mid after : List ℕ) → offset ≤ over
+    → Laid (key m rowsLent at row) row 0 ancestry before mid next row′
+    → StartMeets r m rowsLent levels (kindAt m rowsLent levels next row′) row′ offset ancestry mid after
+    → StartMeets r m rowsLent levels (fieldAt m rowsLent levels at row) row offset ancestry before after
+start-key (Ended k) m rowsLent levels at row offset next row′ ancestry before mid after h l s =
+    sofar-meets k after (sofar-key (key m rowsLent) (kindAt m rowsLent levels) at row offset next row′ ancestry before mid h l) s
+start-key (Array a r) m rowsLent levels at row offset next row′ ancestry before mid after h l s =
+    sofar-keys (sofar-key (key m rowsLent) (kindAt m rowsLent levels) at row offset next row′ ancestry before mid h l) s
+start-key (Record a r) m rowsLent levels at row offset next row′ ancestry before mid after h l s =
+    sofar-keys (sofar-key (key m rowsLent) (kindAt m rowsLent levels) at row offset next row′ ancestry before mid h l) s
 
 -- what ends or opens from a place on does so from every place before it on
 pub within-from : (k : Kinds) (low low′ high rowsLent offset : ℕ) → low′ ≤ low → Within k low high rowsLent offset → Within k low′ high rowsLent offset

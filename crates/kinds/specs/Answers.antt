@@ -7,7 +7,7 @@ use Rattle.format.specs.Limits.{recordLimit}
 use Rattle.format.specs.Marks.{Opening, bracket, brace}
 use Rattle.format.specs.Tokens.{Kind, Token, schemaRecord, fixedArray, plainCount, Forest, size, members}
 use Rattle.format.specs.Records.{totalWidth, placed}
-use Rattle.format.specs.Rows.{rows}
+use Rattle.format.specs.Rows.{Ancestry, rows}
 use Rattle.format.specs.Sequences.{Reader, _⨾_}
 use Rattle.format.specs.Scalars.{key}
 use Rattle.format.specs.Schemas.{plainLeaf, textLeaf, enclosed, kindBy, nested}
@@ -58,33 +58,33 @@ classRead (Refused n) m rowsLent inner mark at row = fault n at
 
 -- one kind was read at an offset; where the offset after it is told apart, its rows now lie in the words from `row` on, as far as
 -- these reach, each with its own offset
-pub record Read (o : Parsed Forest) (row offset : ℕ) (before after : List ℕ) (next row′ offset′ : ℕ) : Type 0 where
+pub record Read (o : Parsed Forest) (row offset : ℕ) (ancestry : Ancestry) (before after : List ℕ) (next row′ offset′ : ℕ) : Type 0 where
   pub forest : Forest
   pub read : o ≡ done (forest, next)
   pub counted : members forest ≡ 1
   pub took : row′ ≡ row + size forest
   pub wide : offset′ ≡ min (offset + totalWidth forest) over
-  pub lie : offset′ ≤ recordLimit → after ≡ lay before row (rows row (placed offset forest))
+  pub lie : offset′ ≤ recordLimit → after ≡ lay before row (rows row ancestry (placed offset forest))
 
 -- the answer to a reader: its refusal, whatever the words then hold; or what was read
-abbrev pub Meets : Kinds → Parsed Forest → ℕ → ℕ → List ℕ → List ℕ → Type 0
-Meets (Fault n p) o row offset before after = o ≡ fault n p
-Meets (Next next row′ offset′) o row offset before after = Read o row offset before after next row′ offset′
+abbrev pub Meets : Kinds → Parsed Forest → ℕ → ℕ → Ancestry → List ℕ → List ℕ → Type 0
+Meets (Fault n p) o row offset ancestry before after = o ≡ fault n p
+Meets (Next next row′ offset′) o row offset ancestry before after = Read o row offset ancestry before after next row′ offset′
 
 -- so far `count` members were read, and the whole is these and what remains
-pub record Sofar (whole : Parsed Forest) (first offset : ℕ) (before : List ℕ) (remains : Parsed Forest) (row count offset′ : ℕ) (now : List ℕ) : Type 0 where
+pub record Sofar (whole : Parsed Forest) (first offset : ℕ) (ancestry : Ancestry) (before : List ℕ) (remains : Parsed Forest) (row count offset′ : ℕ) (now : List ℕ) : Type 0 where
   pub forest : Forest
   pub is : whole ≡ onto forest remains
   pub counted : members forest ≡ count
   pub took : row ≡ first + size forest
   pub wide : offset′ ≡ min (offset + totalWidth forest) over
-  pub lie : offset′ ≤ recordLimit → now ≡ lay before first (rows first (placed offset forest))
+  pub lie : offset′ ≤ recordLimit → now ≡ lay before first (rows first ancestry (placed offset forest))
 
 -- where a kind begins: it is read; or, perhaps after a key, the members of a fixed array or a record remain to be read
-abbrev pub StartMeets : Start → List ℕ → ℕ → ℕ → Parsed Forest → ℕ → ℕ → List ℕ → List ℕ → Type 0
-StartMeets (Ended k) m rowsLent levels o row offset before after = Meets k o row offset before after
-StartMeets (Array a r) m rowsLent levels o row offset before after = Sofar o row offset before (arrayAt m rowsLent (levels - 1) a r) r 0 offset after
-StartMeets (Record a r) m rowsLent levels o row offset before after = Sofar o row offset before (recordAt m rowsLent (levels - 1) a r) r 0 offset after
+abbrev pub StartMeets : Start → List ℕ → ℕ → ℕ → Parsed Forest → ℕ → ℕ → Ancestry → List ℕ → List ℕ → Type 0
+StartMeets (Ended k) m rowsLent levels o row offset ancestry before after = Meets k o row offset ancestry before after
+StartMeets (Array a r) m rowsLent levels o row offset ancestry before after = Sofar o row offset ancestry before (arrayAt m rowsLent (levels - 1) a r) r 0 offset after
+StartMeets (Record a r) m rowsLent levels o row offset ancestry before after = Sofar o row offset ancestry before (recordAt m rowsLent (levels - 1) a r) r 0 offset after
 
 -- ---- places, rows and offsets
 

@@ -3,6 +3,7 @@ use crate::Kinds;
 use format::answers::Kind;
 use format::limits::RECORD_LIMIT;
 use format::marks::Mark;
+use rows::Ancestry;
 use scan::integers::Parsed;
 use scan::integers::integer;
 use tokens::entry::Entry;
@@ -13,6 +14,7 @@ ghost use lib.ListN.{length};
 ghost use Rattle.format.specs.Outcome.{done};
 ghost use Rattle.format.specs.Limits.{limit};
 ghost use Rattle.format.specs.Schemas.{leaf as leafOf, plainLeaf, textLeaf};
+ghost use Rattle.rows.specs.Row.{ancestryOf};
 ghost use Rattle.tokens.specs.Answers.{Here};
 ghost use Rattle.kinds.specs.Answers.{over, Meets, Within};
 
@@ -40,9 +42,10 @@ fn leaf(
     offset: usize,
     width: usize,
     next: usize,
+    ancestry: Ancestry,
 ) -> Kinds
     requires { ⌜ (row ≤ at) × (at ≤ limit) × (offset ≤ over) × (width ≤ limit) ⌝ }
-    ensures meets { λ r. ⌜ Meets r (done (leafOf mark at width, next)) row offset (now (rows .entry)) (now (rows .exit)) ⌝ }
+    ensures meets { λ r. ⌜ Meets r (done (leafOf mark at width, next)) row offset (ancestryOf ancestry) (now (rows .entry)) (now (rows .exit)) ⌝ }
     ensures bounds { λ r. ⌜ ((low high rowsLent : ℕ) → low ≤ next → next ≤ high → row < rowsLent → row < next → Within r low high rowsLent offset) ⌝ }
 {
     let link = row + 1;
@@ -60,6 +63,7 @@ fn leaf(
             order: 0,
         },
         link,
+        ancestry,
     );
     Kinds::Next(next, link, end)
 }
@@ -73,9 +77,10 @@ pub fn plain_leaf(
     at: usize,
     row: usize,
     offset: usize,
+    ancestry: Ancestry,
 ) -> Kinds
     requires { ⌜ Here (now message) lent at row × (at < length (now message)) × (offset ≤ over) ⌝ }
-    ensures meets { λ r. ⌜ Meets r (plainLeaf (now (message .entry)) lent mark at row) row offset (now (rows .entry)) (now (rows .exit)) ⌝ }
+    ensures meets { λ r. ⌜ Meets r (plainLeaf (now (message .entry)) lent mark at row) row offset (ancestryOf ancestry) (now (rows .entry)) (now (rows .exit)) ⌝ }
     ensures bounds { λ r. ⌜ Within r (at + 1) (length (now (message .entry))) lent offset ⌝ }
 {
     if lent <= row {
@@ -83,7 +88,7 @@ pub fn plain_leaf(
     }
     let width = Mark(mark).leaf_width();
     let next = at + 1;
-    leaf(rows, mark, at, row, offset, width, next)
+    leaf(rows, mark, at, row, offset, width, next, ancestry)
 }
 
 // `S` and an integer: so many bytes of text.
@@ -94,9 +99,10 @@ pub fn text_leaf(
     at: usize,
     row: usize,
     offset: usize,
+    ancestry: Ancestry,
 ) -> Kinds
     requires { ⌜ Here (now message) lent at row × (at < length (now message)) × (offset ≤ over) ⌝ }
-    ensures meets { λ r. ⌜ Meets r (textLeaf (now (message .entry)) lent at row) row offset (now (rows .entry)) (now (rows .exit)) ⌝ }
+    ensures meets { λ r. ⌜ Meets r (textLeaf (now (message .entry)) lent at row) row offset (ancestryOf ancestry) (now (rows .entry)) (now (rows .exit)) ⌝ }
     ensures bounds { λ r. ⌜ Within r (at + 1) (length (now (message .entry))) lent offset ⌝ }
 {
     if lent <= row {
@@ -106,7 +112,7 @@ pub fn text_leaf(
         Parsed::Refused(number, place) => Kinds::Fault(number, place),
         Parsed::Number(n, next) => {
             let width = n as usize;
-            leaf(rows, Mark::TEXT, at, row, offset, width, next)
+            leaf(rows, Mark::TEXT, at, row, offset, width, next, ancestry)
         }
     }
 }

@@ -4,6 +4,7 @@ use crate::Kinds;
 use crate::leaves::plain_leaf;
 use crate::leaves::text_leaf;
 use format::marks::Mark;
+use rows::Ancestry;
 use tokens::Step;
 use tokens::scalars::key;
 ghost use mathlib.Core.Path.{_≡_};
@@ -13,6 +14,8 @@ ghost use lib.ListN.{length, getD};
 ghost use Rattle.format.specs.Marks.{Opening, bracket, brace};
 ghost use Rattle.format.specs.Sequences.{Reader};
 ghost use Rattle.format.specs.Schemas.{kindBy, nested};
+ghost use Rattle.format.specs.Rows.{Ancestry as AncestryIn};
+ghost use Rattle.rows.specs.Row.{ancestryOf};
 ghost use Rattle.tokens.specs.Answers.{Here};
 ghost use Rattle.kinds.specs.Answers.{over, kindAt, fieldAt, classRead, StartMeets, StartWithin};
 
@@ -56,7 +59,7 @@ fn class_of(mark: u8) -> Class
 // A fixed array: depth, row, and the byte after its mark, which mustn't be `$`.
 fn array_start(message: &[u8], lent: usize, levels: usize, at: usize, row: usize) -> Start
     requires { ⌜ Here (now message) lent at row × (at < length (now message)) ⌝ }
-    ensures meets { λ r. ⌜ ((offset : ℕ) (words : List ℕ) → offset ≤ over → StartMeets r (now (message .entry)) lent levels (nested (now (message .entry)) lent levels bracket at row) row offset words words) ⌝ }
+    ensures meets { λ r. ⌜ ((offset : ℕ) (ancestry : AncestryIn) (words : List ℕ) → offset ≤ over → StartMeets r (now (message .entry)) lent levels (nested (now (message .entry)) lent levels bracket at row) row offset ancestry words words) ⌝ }
     ensures bounds { λ r. ⌜ ((offset : ℕ) → StartWithin r at (length (now (message .entry))) lent levels offset) ⌝ }
 {
     if levels == 0 {
@@ -79,7 +82,7 @@ fn array_start(message: &[u8], lent: usize, levels: usize, at: usize, row: usize
 // A record: depth and row.
 fn record_start(message: &[u8], lent: usize, levels: usize, at: usize, row: usize) -> Start
     requires { ⌜ Here (now message) lent at row × (at < length (now message)) ⌝ }
-    ensures meets { λ r. ⌜ ((offset : ℕ) (words : List ℕ) → offset ≤ over → StartMeets r (now (message .entry)) lent levels (nested (now (message .entry)) lent levels brace at row) row offset words words) ⌝ }
+    ensures meets { λ r. ⌜ ((offset : ℕ) (ancestry : AncestryIn) (words : List ℕ) → offset ≤ over → StartMeets r (now (message .entry)) lent levels (nested (now (message .entry)) lent levels brace at row) row offset ancestry words words) ⌝ }
     ensures bounds { λ r. ⌜ ((offset : ℕ) → StartWithin r at (length (now (message .entry))) lent levels offset) ⌝ }
 {
     if levels == 0 {
@@ -100,9 +103,10 @@ pub fn kind_start(
     at: usize,
     row: usize,
     offset: usize,
+    ancestry: Ancestry,
 ) -> Start
     requires { ⌜ Here (now message) lent at row × (offset ≤ over) ⌝ }
-    ensures meets { λ r. ⌜ StartMeets r (now (message .entry)) lent levels (kindAt (now (message .entry)) lent levels at row) row offset (now (rows .entry)) (now (rows .exit)) ⌝ }
+    ensures meets { λ r. ⌜ StartMeets r (now (message .entry)) lent levels (kindAt (now (message .entry)) lent levels at row) row offset (ancestryOf ancestry) (now (rows .entry)) (now (rows .exit)) ⌝ }
     ensures bounds { λ r. ⌜ StartWithin r at (length (now (message .entry))) lent levels offset ⌝ }
 {
     let end = message.len();
@@ -111,8 +115,17 @@ pub fn kind_start(
     }
     let mark = message[at];
     match class_of(mark) {
-        Class::Plain => Start::Ended(plain_leaf(message, rows, lent, mark, at, row, offset)),
-        Class::Text => Start::Ended(text_leaf(message, rows, lent, at, row, offset)),
+        Class::Plain => Start::Ended(plain_leaf(
+            message,
+            rows,
+            lent,
+            mark,
+            at,
+            row,
+            offset,
+            ancestry,
+        )),
+        Class::Text => Start::Ended(text_leaf(message, rows, lent, at, row, offset, ancestry)),
         Class::Array => array_start(message, lent, levels, at, row),
         Class::Record => record_start(message, lent, levels, at, row),
         Class::Refused(number) => Start::Ended(Kinds::Fault(number, at)),
@@ -128,13 +141,23 @@ pub fn field_start(
     at: usize,
     row: usize,
     offset: usize,
+    ancestry: Ancestry,
 ) -> Start
     requires { ⌜ Here (now message) lent at row × (offset ≤ over) ⌝ }
-    ensures meets { λ r. ⌜ StartMeets r (now (message .entry)) lent levels (fieldAt (now (message .entry)) lent levels at row) row offset (now (rows .entry)) (now (rows .exit)) ⌝ }
+    ensures meets { λ r. ⌜ StartMeets r (now (message .entry)) lent levels (fieldAt (now (message .entry)) lent levels at row) row offset (ancestryOf ancestry) (now (rows .entry)) (now (rows .exit)) ⌝ }
     ensures bounds { λ r. ⌜ StartWithin r at (length (now (message .entry))) lent levels offset ⌝ }
 {
-    match key(message, rows, lent, at, row) {
+    match key(message, rows, lent, at, row, ancestry) {
         Step::Fault(number, place) => Start::Ended(Kinds::Fault(number, place)),
-        Step::Next(next, after) => kind_start(message, rows, lent, levels, next, after, offset),
+        Step::Next(next, after) => kind_start(
+            message,
+            rows,
+            lent,
+            levels,
+            next,
+            after,
+            offset,
+            ancestry,
+        ),
     }
 }

@@ -10,7 +10,7 @@ use Rattle.format.specs.Outcome.{Parsed, done, fault}
 use Rattle.format.specs.Marks.{Opening, bracket, brace, opens, closes, isScalar, types, integers, 'N'}
 use Rattle.format.specs.Conditions.{if_then_else_, among}
 use Rattle.format.specs.Tokens.{Forest, size, members}
-use Rattle.format.specs.Rows.{rows}
+use Rattle.format.specs.Rows.{Ancestry, outermost, rows}
 use Rattle.format.specs.Bytes.{skip}
 use Rattle.format.specs.Sequences.{Reader, until, spaced}
 use Rattle.format.specs.Containers.{items}
@@ -70,11 +70,11 @@ opening-begins m at outer inner e =
 
 -- ---- one member
 
-module _ (m : List ℕ) (closing : ℕ) (item : Reader) (at row : ℕ) (before after : List ℕ) where
-  pub one-meets : (s : Step) (high lent : ℕ) → Begins m closing at → Within s (at + 1) high lent → Meets s (item at row) row 1 before after
-      → FollowingMeets (oneOf s) m closing item at row before after
+module _ (m : List ℕ) (closing : ℕ) (item : Reader) (at row : ℕ) (ancestry : Ancestry) (before after : List ℕ) where
+  pub one-meets : (s : Step) (high lent : ℕ) → Begins m closing at → Within s (at + 1) high lent → Meets s (item at row) row 1 ancestry before after
+      → FollowingMeets (oneOf s) m closing item at row ancestry before after
   one-meets (Faulty n p) high lent b w h = h
-  one-meets (Read next row′) high lent b w h = passed-one m closing item at row next row′ before after b (omega arith) h
+  one-meets (Read next row′) high lent b w h = passed-one m closing item at row next row′ ancestry before after b (omega arith) h
 
 pub one-within : (s : Step) (at high lent : ℕ) → Within s (at + 1) high lent → FollowingWithin (oneOf s) at high lent
 one-within (Faulty n p) at high lent w = tt
@@ -85,27 +85,27 @@ pub first-fault : (m : List ℕ) (closing : ℕ) (item : Reader) (start first n 
     → (fuel : ℕ) → length m ≤ start + fuel → until m fuel (skip m) closing item start first ≡ fault n p
 first-fault m closing item start first n p b h fuel l =
     let e = b .here in
-    until-fault m (skip m) closing item start first [] (until-start m (skip m) closing item start first [] fuel l) (omega (arith, e)) (rw e (b .there)) (rw e (b .more)) n p (rw e h)
+    until-fault m (skip m) closing item start first outermost [] (until-start m (skip m) closing item start first outermost [] fuel l) (omega (arith, e)) (rw e (b .there)) (rw e (b .more)) n p (rw e h)
 
 -- ---- several members in a loop
 
 -- tokens are read, and what remains is other than it was
-pub sofar-onto : {whole remains rest : Parsed Forest} {first row count row′ k : ℕ} {before now after : List ℕ} → Sofar whole first before remains row count now
-    → (g : Forest) → members g ≡ k → row′ ≡ row + size g → after ≡ lay now row (rows row g) → remains ≡ onto g rest
-    → Sofar whole first before rest row′ (count + k) after
+pub sofar-onto : {whole remains rest : Parsed Forest} {first row count row′ k : ℕ} {ancestry : Ancestry} {before now after : List ℕ} → Sofar whole first ancestry before remains row count now
+    → (g : Forest) → members g ≡ k → row′ ≡ row + size g → after ≡ lay now row (rows row ancestry g) → remains ≡ onto g rest
+    → Sofar whole first ancestry before rest row′ (count + k) after
 sofar-onto {rest = rest} {row = row} {row′ = row′} {k = k} {after = after} s g counted took lie e =
     sofar-step s (λ at row. done (g, 0)) (λ at row. rest) 0 0 row′ k after (e ∙ sym (seq-read (λ at row. done (g, 0)) (λ at row. rest) 0 row 0 g refl))
     (record { forest = g; read = refl; counted = counted; took = took; lie = lie })
 
-module _ (m : List ℕ) (closing : ℕ) (item : Reader) (start first : ℕ) (before : List ℕ) where
-  pub some-passed : (n at row count next row′ k : ℕ) (now after : List ℕ) → Some n (spaced m item) start first before at row count now
-      → Passed m closing item at row now next row′ k after → count + k ≤ n → Some n (spaced m item) start first before next row′ (count + k) after
+module _ (m : List ℕ) (closing : ℕ) (item : Reader) (start first : ℕ) (ancestry : Ancestry) (before : List ℕ) where
+  pub some-passed : (n at row count next row′ k : ℕ) (now after : List ℕ) → Some n (spaced m item) start first ancestry before at row count now
+      → Passed m closing item at row ancestry now next row′ k after → count + k ≤ n → Some n (spaced m item) start first ancestry before next row′ (count + k) after
   some-passed n at row count next row′ k now after s p h =
       let e : n - count ≡ k + (n - (count + k)) = omega arith in
       record { most = h; sofar = sofar-onto (s .sofar) (p .forest) (p .counted) (p .took) (p .lie) (rw e (p .some (n - (count + k)))) }
 
-  pub until-passed : (fuel₀ at row count next row′ k : ℕ) (now after : List ℕ) → Until m (skip m) closing item start first before fuel₀ at row count now
-      → Passed m closing item at row now next row′ k after → Until m (skip m) closing item start first before fuel₀ next row′ (count + k) after
+  pub until-passed : (fuel₀ at row count next row′ k : ℕ) (now after : List ℕ) → Until m (skip m) closing item start first ancestry before fuel₀ at row count now
+      → Passed m closing item at row ancestry now next row′ k after → Until m (skip m) closing item start first ancestry before fuel₀ next row′ (count + k) after
   until-passed fuel₀ at row count next row′ k now after s p =
       let g = p .goes (s .fuel) (s .enough) in
       record { fuel = g .left; enough = g .enough; sofar = sofar-onto (s .sofar) (p .forest) (p .counted) (p .took) (p .lie) (g .is) }
@@ -116,8 +116,8 @@ module _ (m : List ℕ) (closing : ℕ) (item : Reader) (start first : ℕ) (bef
   skipped zero at row = refl
   skipped (suc fuel) at row = rw (skip-again m at)
 
-  pub until-skip : (fuel₀ at row count : ℕ) (now : List ℕ) → at ≤ skip m at → Until m (skip m) closing item start first before fuel₀ at row count now
-      → Until m (skip m) closing item start first before fuel₀ (skip m at) row count now
+  pub until-skip : (fuel₀ at row count : ℕ) (now : List ℕ) → at ≤ skip m at → Until m (skip m) closing item start first ancestry before fuel₀ at row count now
+      → Until m (skip m) closing item start first ancestry before fuel₀ (skip m at) row count now
   until-skip fuel₀ at row count now u s =
       record {
         fuel = s .fuel;
@@ -126,18 +126,18 @@ module _ (m : List ℕ) (closing : ℕ) (item : Reader) (start first : ℕ) (bef
       }
 
   -- several, and then the closing mark
-  pub passed-stop : (fuel₀ at row k : ℕ) (now : List ℕ) → length m ≤ start + fuel₀ → Passed m closing item start first before at row k now
-      → skip m at ≡ at → at < length m → getD m at 0 ≡ closing → Laid (until m fuel₀ (skip m) closing item start first) first k before now at row
+  pub passed-stop : (fuel₀ at row k : ℕ) (now : List ℕ) → length m ≤ start + fuel₀ → Passed m closing item start first ancestry before at row k now
+      → skip m at ≡ at → at < length m → getD m at 0 ≡ closing → Laid (until m fuel₀ (skip m) closing item start first) first k ancestry before now at row
   passed-stop fuel₀ at row k now h p e there c =
-      let s = until-passed fuel₀ start first 0 at row k before now (until-start m (skip m) closing item start first before fuel₀ h) p in
-      let l = until-stop m (skip m) closing item start first before s (omega (arith, e)) (rw e there) (rw e c) in
+      let s = until-passed fuel₀ start first 0 at row k before now (until-start m (skip m) closing item start first ancestry before fuel₀ h) p in
+      let l = until-stop m (skip m) closing item start first ancestry before s (omega (arith, e)) (rw e there) (rw e c) in
       let z : 0 + k ≡ k = omega arith in
       rw (e, z) at l
 
   -- several, and a list after them
-  pub list-passed : (r : Listed) (at row k : ℕ) (now after : List ℕ) → Passed m closing item start first before at row k now
-      → ((fuel : ℕ) → length m ≤ at + fuel → ListMeets r (until m fuel (skip m) closing item at row) row now after)
-      → (fuel : ℕ) → length m ≤ start + fuel → ListMeets (plusOf k r) (until m fuel (skip m) closing item start first) first before after
+  pub list-passed : (r : Listed) (at row k : ℕ) (now after : List ℕ) → Passed m closing item start first ancestry before at row k now
+      → ((fuel : ℕ) → length m ≤ at + fuel → ListMeets r (until m fuel (skip m) closing item at row) row ancestry now after)
+      → (fuel : ℕ) → length m ≤ start + fuel → ListMeets (plusOf k r) (until m fuel (skip m) closing item start first) first ancestry before after
   list-passed (Fault n q) at row k now after p h fuel l =
       let g = p .goes fuel l in g .is ∙ onto-fault (p .forest) _ n q (h (g .left) (g .enough))
   list-passed (Next end row′ more) at row k now after p h fuel l =

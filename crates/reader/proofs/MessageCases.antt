@@ -11,7 +11,7 @@ use Rattle.format.specs.Limits.{limit, valueLevels}
 use Rattle.format.specs.Refusals.{messageTooLong, bytesAfter}
 use Rattle.format.specs.Marks.{bracket}
 use Rattle.format.specs.Tokens.{Forest}
-use Rattle.format.specs.Rows.{rows, allRows, allWords, zeros}
+use Rattle.format.specs.Rows.{rowWords, outermost, rows, allRows, allWords, zeros}
 use Rattle.format.specs.Bytes.{skip}
 use Rattle.format.specs.Containers.{items}
 use Rattle.format.specs.Read.{read, rowsUsed, wordsAfter}
@@ -41,7 +41,7 @@ module _ (m : List ℕ) (lent : ℕ) (grammar : Grammar) where
       unfolding read guard _>>_ _>>=_ memberOf items
       read-done h = rw (le-leb _ _ short, value, eq-eqb _ _ h)
 
-    pub read-lies : (next row : ℕ) (before after : List ℕ) → Laid (memberOf m lent grammar valueLevels bracket (skip m 0) 0) 0 1 before after next row
+    pub read-lies : (next row : ℕ) (before after : List ℕ) → Laid (memberOf m lent grammar valueLevels bracket (skip m 0) 0) 0 1 outermost before after next row
         → skip m next ≡ length m → Lies (read m lent grammar) before after row
     unfolding allRows
     read-lies next row before after l h =
@@ -57,11 +57,11 @@ pub refused : (o : Outcome Forest) (n p : ℕ) → o ≡ fault n p → fault n p
 unfolding rowsUsed
 refused o n p e = rw e
 
-pub words-filled : (o : Outcome Forest) (before after : List ℕ) (row : ℕ) → Lies o before after row → row * 8 ≤ length before → clearedFrom after (row * 8) ≡ wordsAfter (length before) o
+pub words-filled : (o : Outcome Forest) (before after : List ℕ) (row : ℕ) → Lies o before after row → row * rowWords ≤ length before → clearedFrom after (row * rowWords) ≡ wordsAfter (length before) o
 unfolding wordsAfter allWords allRows
 words-filled o before after row l h =
-    let n : row ≡ length (rows 0 (l .forest)) = omega (arith, length-rows 0 (l .forest), l .took) in
-    rw (l .read, l .lie, n) (lay-cleared before (rows 0 (l .forest)) (omega arith))
+    let n : row ≡ length (rows 0 outermost (l .forest)) = omega (arith, length-rows 0 outermost (l .forest), l .took) in
+    rw (l .read, l .lie, n) (lay-cleared before (rows 0 outermost (l .forest)) (omega arith))
 
 pub words-zero : (o : Outcome Forest) (words n p : ℕ) → o ≡ fault n p → zeros words ≡ wordsAfter words o
 unfolding wordsAfter

@@ -4,6 +4,8 @@ use format::answers::Edition;
 use format::limits::LIMIT;
 use format::limits::VALUE_LEVELS;
 use nesting::values::member;
+use rows::OUTERMOST;
+use rows::ROW_WORDS;
 use rows::clear;
 use rows::clear_from;
 use rows::count;
@@ -27,7 +29,17 @@ fn read_core(edition: Edition, message: &[u8], rows: &mut [u32], lent: usize) ->
         return Step::Fault(1, 0);
     }
     let at = skip(message, 0);
-    match member(edition, message, rows, lent, VALUE_LEVELS, false, at, 0) {
+    match member(
+        edition,
+        message,
+        rows,
+        lent,
+        VALUE_LEVELS,
+        false,
+        at,
+        0,
+        OUTERMOST,
+    ) {
         Step::Fault(n, p) => Step::Fault(n, p),
         Step::Next(next, row) => {
             let after = skip(message, next);
@@ -57,7 +69,7 @@ pub fn read(edition: Edition, message: &[u8], rows: &mut [u32]) -> Answer
     match read_core(edition, message, rows, lent) {
         Step::Fault(n, p) => refused(rows, n, p),
         Step::Next(_, row) => {
-            clear_from(rows, row * 8);
+            clear_from(rows, row * ROW_WORDS);
             Answer::Done(row)
         }
     }

@@ -10,7 +10,7 @@ use lib.Seq.{sets, set-comm, length-sets, sets-eq, take-append-seam}
 use lib.Dec.{ltb}
 use borrow.Author.Tests.{lt-ltb}
 use Rattle.format.specs.Conditions.{if_then_else_}
-use Rattle.format.specs.Rows.{Row, layout, rowsIn, wordsOf, zeros, filled}
+use Rattle.format.specs.Rows.{Row, rowWords, layout, rowsIn, wordsOf, zeros, filled}
 use Rattle.format.proofs.RowWords.{length-layout, length-words}
 use Rattle.rows.specs.Clearing.{clearedFrom}
 use Rattle.rows.specs.Row.{store}
@@ -37,11 +37,11 @@ sets-append (x ∷ a) b l i =
 -- ---- one row, stored or not
 
 put : Bool → List ℕ → ℕ → Row → List ℕ
-put b ws i r = if b then sets ws (i * 8) (layout r) else ws
+put b ws i r = if b then sets ws (i * rowWords) (layout r) else ws
 
 length-put : (b : Bool) (ws : List ℕ) (i : ℕ) (r : Row) → length (put b ws i r) ≡ length ws
 unfolding put if_then_else_
-length-put true ws i r = length-sets ws (i * 8) (layout r)
+length-put true ws i r = length-sets ws (i * rowWords) (layout r)
 length-put false ws i r = refl
 
 pub length-store : (ws : List ℕ) (i : ℕ) (r : Row) → length (store ws i r) ≡ length ws
@@ -50,7 +50,7 @@ length-store ws i r = length-put (ltb i (rowsIn ws)) ws i r
 
 put-comm : (b c : Bool) (ws : List ℕ) (i j : ℕ) (r s : Row) → i < j → put b (put c ws j s) i r ≡ put c (put b ws i r) j s
 unfolding put if_then_else_ layout
-put-comm true true ws i j r s h = sets-comm (layout r) (layout s) ws (i * 8) (j * 8) (omega arith)
+put-comm true true ws i j r s h = sets-comm (layout r) (layout s) ws (i * rowWords) (j * rowWords) (omega arith)
 put-comm true false ws i j r s h = refl
 put-comm false true ws i j r s h = refl
 put-comm false false ws i j r s h = refl
@@ -88,24 +88,24 @@ lay-front ws i r b = store-lay ws i (suc i) r b (omega arith)
 
 -- ---- a table that has room for all
 
-store-there : (ws : List ℕ) (i : ℕ) (r : Row) → (i + 1) * 8 ≤ length ws → store ws i r ≡ sets ws (i * 8) (layout r)
+store-there : (ws : List ℕ) (i : ℕ) (r : Row) → (i + 1) * rowWords ≤ length ws → store ws i r ≡ sets ws (i * rowWords) (layout r)
 unfolding store rowsIn if_then_else_
-store-there ws i r h = rw (lt-ltb i (length ws / 8) (omega arith))
+store-there ws i r h = rw (lt-ltb i (length ws / rowWords) (omega arith))
 
-lay-there : (ws : List ℕ) (i : ℕ) (rs : List Row) → (i + length rs) * 8 ≤ length ws → lay ws i rs ≡ sets ws (i * 8) (wordsOf rs)
+lay-there : (ws : List ℕ) (i : ℕ) (rs : List Row) → (i + length rs) * rowWords ≤ length ws → lay ws i rs ≡ sets ws (i * rowWords) (wordsOf rs)
 unfolding lay wordsOf
 lay-there ws i [] h = refl
 lay-there ws i (r ∷ rs) h =
     lay-there (store ws i r) (suc i) rs (rw (length-store ws i r) (omega arith))
-    ∙ ap (λ t. sets t (suc i * 8) (wordsOf rs)) (store-there ws i r (omega arith))
-    ∙ ap (λ k. sets (sets ws (i * 8) (layout r)) k (wordsOf rs)) (omega (arith, length-layout r))
-    ∙ sets-append (layout r) (wordsOf rs) ws (i * 8)
+    ∙ ap (λ t. sets t (suc i * rowWords) (wordsOf rs)) (store-there ws i r (omega arith))
+    ∙ ap (λ k. sets (sets ws (i * rowWords) (layout r)) k (wordsOf rs)) (omega (arith, length-layout r))
+    ∙ sets-append (layout r) (wordsOf rs) ws (i * rowWords)
 
 -- what is laid from the first row on, and zeros after it
-pub lay-cleared : (ws : List ℕ) (rs : List Row) → length rs * 8 ≤ length ws → clearedFrom (lay ws 0 rs) (length rs * 8) ≡ filled (length ws) (wordsOf rs)
+pub lay-cleared : (ws : List ℕ) (rs : List Row) → length rs * rowWords ≤ length ws → clearedFrom (lay ws 0 rs) (length rs * rowWords) ≡ filled (length ws) (wordsOf rs)
 unfolding clearedFrom filled
 lay-cleared ws rs h =
     let w = length-words rs in
-    let e : length rs * 8 ≡ length (wordsOf rs) = omega arith in
+    let e : length rs * rowWords ≡ length (wordsOf rs) = omega arith in
     let l : lay ws 0 rs ≡ wordsOf rs ++ drop (length (wordsOf rs)) ws = lay-there ws 0 rs (omega arith) ∙ sets-eq (wordsOf rs) ws 0 (omega arith) ∙ ap (λ k. wordsOf rs ++ drop k ws) (zero-add (length (wordsOf rs))) in
     rw (length-lay ws 0 rs, l, e) (ap (λ t. t ++ zeros (length ws - length (wordsOf rs))) (take-append-seam (wordsOf rs) (drop (length (wordsOf rs)) ws)))

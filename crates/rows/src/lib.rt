@@ -1,10 +1,14 @@
-// Lent memory: the row table, which is 32-bit words, eight to a row, and bytes.
+// Lent memory: the row table, which is 32-bit words, ten to a row, and bytes.
 ghost use mathlib.Core.Path.{_≡_};
-ghost use Prim.Native.Nat.{_<_, _≤_, _^_};
+ghost use Prim.Native.Nat.{_+_, _<_, _≤_, _^_};
 ghost use lib.ListN.{length};
-ghost use Rattle.format.specs.Rows.{rowsIn, rowAt, word as wordIn, zeros};
+ghost use Rattle.format.specs.Limits.{limit};
+ghost use Rattle.format.specs.Rows.{heldBy, rowsIn, rowAt, word as wordIn, zeros};
 ghost use Rattle.rows.specs.Clearing.{clearedFrom};
-ghost use Rattle.rows.specs.Row.{rowOf, noRow, store as storeIn};
+ghost use Rattle.rows.specs.Row.{rowOf, ancestryOf, noRow, store as storeIn};
+
+// How many words a row has.
+pub const ROW_WORDS: usize = 10;
 
 // A row: its words by name, in their order.
 pub struct Row {
@@ -16,13 +20,40 @@ pub struct Row {
     pub count: u32,
     pub link: u32,
     pub order: u32,
+    pub parent: u32,
+    pub depth: u32,
+}
+
+// A token's ancestry: its parent's row plus one, 0 for the outermost; and its depth, 0 for the outermost.
+pub struct Ancestry {
+    pub parent: u32,
+    pub depth: u32,
+}
+
+// That of the outermost token.
+pub const OUTERMOST: Ancestry = Ancestry {
+    parent: 0,
+    depth: 0,
+};
+
+// That of the tokens that the token of a row holds: one deeper.
+pub fn held_by(row: usize, ancestry: Ancestry) -> Ancestry
+    requires { ⌜ (row ≤ limit) × (ancestry .depth ≤ limit) ⌝ }
+    ensures is { λ r. ⌜ ancestryOf r ≡ heldBy row (ancestryOf ancestry) ⌝ }
+    ensures deep { λ r. ⌜ r .depth ≡ ancestry .depth + 1 ⌝ }
+{
+    let below = row + 1;
+    Ancestry {
+        parent: below as u32,
+        depth: ancestry.depth + 1,
+    }
 }
 
 // How many rows the table has.
 pub fn count(rows: &[u32]) -> usize
     ensures { λ r. ⌜ r ≡ rowsIn (now (rows .entry)) ⌝ }
 {
-    rows.len() / 8
+    rows.len() / ROW_WORDS
 }
 
 // Word k of a row; 0 past the table's end.
@@ -30,10 +61,10 @@ pub fn word(rows: &[u32], row: usize, k: usize) -> usize
     ensures is { λ r. ⌜ r ≡ wordIn (now (rows .entry)) row k ⌝ }
     ensures narrow { λ r. ⌜ r < 2 ^ 32 ⌝ }
 {
-    if rows.len() / 8 < row {
+    if rows.len() / ROW_WORDS < row {
         return 0;
     }
-    let at = row * 8;
+    let at = row * ROW_WORDS;
     if rows.len() - at <= k {
         return 0;
     }
@@ -57,6 +88,8 @@ const NO_ROW: Row = Row {
     count: 0,
     link: 0,
     order: 0,
+    parent: 0,
+    depth: 0,
 };
 
 // A row of the table, whole; no row past the table's last.
@@ -64,11 +97,11 @@ pub fn load(rows: &[u32], row: usize) -> Row
     ensures there { λ r. ⌜ (row < rowsIn (now (rows .entry)) → rowOf r ≡ rowAt (now (rows .entry)) row) ⌝ }
     ensures past { λ r. ⌜ (rowsIn (now (rows .entry)) ≤ row → rowOf r ≡ noRow) ⌝ }
 {
-    let end = rows.len() / 8;
+    let end = rows.len() / ROW_WORDS;
     if end <= row {
         return NO_ROW;
     }
-    let at = row * 8;
+    let at = row * ROW_WORDS;
     Row {
         kind: rows[at],
         mark: rows[at + 1],
@@ -78,6 +111,8 @@ pub fn load(rows: &[u32], row: usize) -> Row
         count: rows[at + 5],
         link: rows[at + 6],
         order: rows[at + 7],
+        parent: rows[at + 8],
+        depth: rows[at + 9],
     }
 }
 
@@ -85,10 +120,10 @@ pub fn load(rows: &[u32], row: usize) -> Row
 pub fn store(rows: &mut [u32], row: usize, r: Row)
     ensures { λ _. ⌜ now (rows .exit) ≡ storeIn (now (rows .entry)) row (rowOf r) ⌝ }
 {
-    if rows.len() / 8 <= row {
+    if rows.len() / ROW_WORDS <= row {
         return;
     }
-    let at = row * 8;
+    let at = row * ROW_WORDS;
     rows[at] = r.kind;
     rows[at + 1] = r.mark;
     rows[at + 2] = r.first;
@@ -97,6 +132,8 @@ pub fn store(rows: &mut [u32], row: usize, r: Row)
     rows[at + 5] = r.count;
     rows[at + 6] = r.link;
     rows[at + 7] = r.order;
+    rows[at + 8] = r.parent;
+    rows[at + 9] = r.depth;
 }
 
 // Zeros every word, a remainder's too.

@@ -13,7 +13,7 @@ use Rattle.format.specs.Outcome.{done, _>>=_, _>>_, guard}
 use Rattle.format.specs.Marks.{Opening, bracket, brace, closes, integers, isInteger, types, isScalar, width, 'F', 'N', 'S', 'T', 'Z', ']', right-brace}
 use Rattle.format.specs.Tokens as Tokens
 use Rattle.format.specs.Tokens.{Token, alone, uncounted, isKind, members}
-use Rattle.format.specs.Rows.{rowOf}
+use Rattle.format.specs.Rows.{Ancestry, rowOf}
 use Rattle.format.specs.Bytes.{byte}
 use Rattle.format.specs.Sequences.{Reader, _⨾_, spaced}
 use Rattle.format.specs.Scalars.{key}
@@ -143,54 +143,54 @@ module _ (m : List ℕ) (at : ℕ) where
 
 -- ---- a member of such tokens
 
-module _ (m : List ℕ) (lent : ℕ) where
+module _ (m : List ℕ) (lent : ℕ) (ancestry : Ancestry) where
   -- its row lies in the words
-  laid-value : (at row next : ℕ) (t : Token) (now after : List ℕ) → Stands m at t next → row < lent → after ≡ store now row (rowOf t (row + 1))
-      → (grammar : Grammar) (nested : Opening → Reader) → Laid (valueBy m lent grammar nested at row) row 1 now after next (row + 1)
-  laid-value at row next t now after s h e grammar nested = rw (s .read lent row h grammar nested) (rw (s .one) at (laid-alone t row next now after e))
+  laid-value : (at row next : ℕ) (t : Token) (now after : List ℕ) → Stands m at t next → row < lent → after ≡ store now row (rowOf t (row + 1) ancestry)
+      → (grammar : Grammar) (nested : Opening → Reader) → Laid (valueBy m lent grammar nested at row) row 1 ancestry now after next (row + 1)
+  laid-value at row next t now after s h e grammar nested = rw (s .read lent row h grammar nested) (rw (s .one) at (laid-alone t row next ancestry now after e))
 
   -- a member of an array
-  pub value-passed : (at row next : ℕ) (t : Token) (now after : List ℕ) → Stands m at t next → row < lent → after ≡ store now row (rowOf t (row + 1))
-      → PassedIn m lent bracket at row now (record { at = next; row = row + 1; count = 1 }) after
+  pub value-passed : (at row next : ℕ) (t : Token) (now after : List ℕ) → Stands m at t next → row < lent → after ≡ store now row (rowOf t (row + 1) ancestry)
+      → PassedIn m lent bracket at row ancestry now (record { at = next; row = row + 1; count = 1 }) after
   unfolding items
   value-passed at row next t now after s h e grammar nested =
-      passed-one m (closes bracket) (valueBy m lent grammar nested) at row next (row + 1) now after (s .starts bracket) (s .on) (laid-value at row next t now after s h e grammar nested)
+      passed-one m (closes bracket) (valueBy m lent grammar nested) at row next (row + 1) ancestry now after (s .starts bracket) (s .on) (laid-value at row next t now after s h e grammar nested)
 
   -- a member of an object: a key, and the value right after it
   pub pair-passed : (at row value next : ℕ) (t : Token) (now mid after : List ℕ) → KeyEnds m at value → Stands m value t next → row + 1 < lent
-      → mid ≡ store now row (rowOf (uncounted Tokens.key 'S' at (at + 2) (value - (at + 2))) (row + 1)) → after ≡ store mid (row + 1) (rowOf t (row + 1 + 1))
-      → PassedIn m lent brace at row now (record { at = next; row = row + 1 + 1; count = 1 }) after
+      → mid ≡ store now row (rowOf (uncounted Tokens.key 'S' at (at + 2) (value - (at + 2))) (row + 1) ancestry) → after ≡ store mid (row + 1) (rowOf t (row + 1 + 1) ancestry)
+      → PassedIn m lent brace at row ancestry now (record { at = next; row = row + 1 + 1; count = 1 }) after
   unfolding items spaced members isKind if_then_else_
   pair-passed at row value next t now mid after k s h d e grammar nested =
-      passed-one m (closes brace) (key m lent ⨾ spaced m (valueBy m lent grammar nested)) at row next (row + 1 + 1) now after (key-starts m at value k) (omega arith)
-      (seq-meets (Next next (row + 1 + 1)) (key m lent) (spaced m (valueBy m lent grammar nested)) at row 0 value (row + 1) 1 now mid after
-      (rw (key-read m at value k lent row (omega arith)) (laid-alone _ row value now mid d))
+      passed-one m (closes brace) (key m lent ⨾ spaced m (valueBy m lent grammar nested)) at row next (row + 1 + 1) ancestry now after (key-starts m at value k) (omega arith)
+      (seq-meets (Next next (row + 1 + 1)) (key m lent) (spaced m (valueBy m lent grammar nested)) at row 0 value (row + 1) 1 ancestry now mid after
+      (rw (key-read m at value k lent row (omega arith)) (laid-alone _ row value ancestry now mid d))
       (rw (s .starts brace .here) (laid-value value (row + 1) next t mid after s h e grammar nested)))
 
   -- some members, and then more
-  pub passed-more : (opening : Opening) (start first : ℕ) (before now after : List ℕ) (r q : Run) → PassedIn m lent opening start first before r now
-      → PassedIn m lent opening (r .at) (r .row) now q after → PassedIn m lent opening start first before (record { at = q .at; row = q .row; count = r .count + q .count }) after
+  pub passed-more : (opening : Opening) (start first : ℕ) (before now after : List ℕ) (r q : Run) → PassedIn m lent opening start first ancestry before r now
+      → PassedIn m lent opening (r .at) (r .row) ancestry now q after → PassedIn m lent opening start first ancestry before (record { at = q .at; row = q .row; count = r .count + q .count }) after
   passed-more opening start first before now after r q p h grammar nested = passed-join m (closes opening) (items m lent opening (valueBy m lent grammar nested)) (p grammar nested) (h grammar nested)
 
 -- ---- a loop over them
 
-module _ (m : List ℕ) (lent : ℕ) (opening : Opening) (most start first : ℕ) (before : List ℕ) where
+module _ (m : List ℕ) (lent : ℕ) (opening : Opening) (most start first : ℕ) (ancestry : Ancestry) (before : List ℕ) where
   -- where it is, and what it has passed
   pub record Running (at row count : ℕ) (now : List ℕ) : Type 0 where
     pub ends : RunEnds most start (length m) lent (record { at = at; row = row; count = count })
     pub same : length now ≡ length before
-    pub passed : PassedIn m lent opening start first before (record { at = at; row = row; count = count }) now
+    pub passed : PassedIn m lent opening start first ancestry before (record { at = at; row = row; count = count }) now
 
   -- none is passed yet
   pub running-start : Here m lent start first → Running start first 0 before
-  running-start h = record { ends = omega arith; same = refl; passed = λ grammar nested. passed-start _ _ _ start first before }
+  running-start h = record { ends = omega arith; same = refl; passed = λ grammar nested. passed-start _ _ _ start first ancestry before }
 
   -- one more is passed
   pub running-turn : {at row count next row′ : ℕ} {now after : List ℕ} → Running at row count now → count < most → at < next → next ≤ length m → row′ ≤ lent → row′ ≤ next
-      → length after ≡ length now → PassedIn m lent opening at row now (record { at = next; row = row′; count = 1 }) after → Running next row′ (count + 1) after
+      → length after ≡ length now → PassedIn m lent opening at row ancestry now (record { at = next; row = row′; count = 1 }) after → Running next row′ (count + 1) after
   running-turn {at} {row} {count} {next} {row′} {now} {after} r few on inside rowLent rowByte same p =
       record {
         ends = record { on = omega arith; inside = inside; rowLent = rowLent; rowByte = rowByte; few = omega arith };
         same = same ∙ r .same;
-        passed = passed-more m lent opening start first before now after (record { at = at; row = row; count = count }) (record { at = next; row = row′; count = 1 }) (r .passed) p;
+        passed = passed-more m lent ancestry opening start first before now after (record { at = at; row = row; count = count }) (record { at = next; row = row′; count = 1 }) (r .passed) p;
       }

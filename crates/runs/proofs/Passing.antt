@@ -8,7 +8,7 @@ use borrow.Author.Tests.{lt-ltb, ne-eqb}
 use Rattle.format.specs.Conditions.{if_then_else_}
 use Rattle.format.specs.Outcome.{_>>=_, _>>_, guard}
 use Rattle.format.specs.Tokens.{none, size, _⊕_, members}
-use Rattle.format.specs.Rows.{rows}
+use Rattle.format.specs.Rows.{Ancestry, rows}
 use Rattle.format.specs.Bytes.{byte, skip}
 use Rattle.format.specs.Sequences.{Reader, repeat, until, spaced}
 use Rattle.format.proofs.Forests.{size-append, members-append}
@@ -19,9 +19,9 @@ use Rattle.runs.specs.Runs.{Begins, Goes, Passed}
 
 module _ (m : List ℕ) (closing : ℕ) (item : Reader) where
   -- none is read yet
-  pub passed-start : (start first : ℕ) (words : List ℕ) → Passed m closing item start first words start first 0 words
+  pub passed-start : (start first : ℕ) (ancestry : Ancestry) (words : List ℕ) → Passed m closing item start first ancestry words start first 0 words
   unfolding size members rows lay
-  passed-start start first words =
+  passed-start start first ancestry words =
       record {
         forest = none;
         counted = refl;
@@ -33,7 +33,7 @@ module _ (m : List ℕ) (closing : ℕ) (item : Reader) where
       }
 
   -- one member where no `N` and no closing mark stands
-  module _ (at row next row′ : ℕ) (now after : List ℕ) (b : Begins m closing at) (on : at < next) (l : Laid (item at row) row 1 now after next row′) where
+  module _ (at row next row′ : ℕ) (ancestry : Ancestry) (now after : List ℕ) (b : Begins m closing at) (on : at < next) (l : Laid (item at row) row 1 ancestry now after next row′) where
     one-some : (n : ℕ) → repeat (1 + n) (spaced m item) at row ≡ onto (l .forest) (repeat n (spaced m item) next row′)
     unfolding repeat spaced
     one-some n = let e : 1 + n ≡ suc n = omega arith in rw (e, l .took) (seq-read (spaced m item) (repeat n (spaced m item)) at row next (l .forest) (rw (b .here) (l .read)))
@@ -48,20 +48,20 @@ module _ (m : List ℕ) (closing : ℕ) (item : Reader) where
           is = rw (b .here, lt-ltb _ _ (b .there), ne-eqb _ _ (b .more), l .took) (seq-read item (until m fuel (skip m) closing item) at row next (l .forest) (l .read));
         }
 
-    pub passed-one : Passed m closing item at row now next row′ 1 after
+    pub passed-one : Passed m closing item at row ancestry now next row′ 1 after
     passed-one = record { forest = l .forest; counted = l .counted; took = l .took; lie = l .lie; some = one-some; still = λ e. absurd (omega arith); goes = one-goes }
 
   -- some, and then more
-  pub passed-join : {start first at row k next row′ j : ℕ} {before now after : List ℕ} → Passed m closing item start first before at row k now
-      → Passed m closing item at row now next row′ j after → Passed m closing item start first before next row′ (k + j) after
-  passed-join {start} {first} {at} {row} {k} {next} {row′} {j} {before} {now} {after} p q =
+  pub passed-join : {start first at row k next row′ j : ℕ} {ancestry : Ancestry} {before now after : List ℕ} → Passed m closing item start first ancestry before at row k now
+      → Passed m closing item at row ancestry now next row′ j after → Passed m closing item start first ancestry before next row′ (k + j) after
+  passed-join {start} {first} {at} {row} {k} {next} {row′} {j} {ancestry} {before} {now} {after} p q =
       let f = p .forest in
       let g = q .forest in
       record {
         forest = f ⊕ g;
         counted = members-append f g ∙ omega (arith, p .counted, q .counted);
         took = omega (arith, p .took, q .took, size-append f g);
-        lie = q .lie ∙ rw (p .lie, p .took) (lay-forest before first f g);
+        lie = q .lie ∙ rw (p .lie, p .took) (lay-forest before first ancestry f g);
         some = λ n.
             let e : k + j + n ≡ k + (j + n) = omega arith in
             rw e (p .some (j + n) ∙ ap (onto f) (q .some n) ∙ onto-onto f g _);

@@ -9,6 +9,7 @@ use ends::texts::text_end;
 use ends::texts::value_end;
 use format::answers::Kind;
 use format::marks::Mark;
+use rows::Ancestry;
 use scan::bytes::byte_at;
 use tokens::entry::Entry;
 use tokens::entry::put;
@@ -19,7 +20,7 @@ ghost use Rattle.format.specs.Marks.{bracket, brace as braceOpening, openingOf}
 ghost use Rattle.format.specs.Tokens.{uncounted};
 ghost use Rattle.format.specs.Answers.{kindOf};
 ghost use Rattle.format.specs.Rows.{rowOf};
-ghost use Rattle.rows.specs.Row.{store as storeIn};
+ghost use Rattle.rows.specs.Row.{ancestryOf, store as storeIn};
 ghost use Rattle.tokens.specs.Answers.{Here};
 ghost use Rattle.ends.specs.Ends.{Sized};
 ghost use Rattle.runs.specs.Runs.{RunMeets, valueStart, valueToken};
@@ -40,9 +41,10 @@ fn put_alone(
     at: usize,
     start: usize,
     next: usize,
+    ancestry: Ancestry,
 )
     requires { ⌜ (row ≤ at) × (at ≤ start) × (start ≤ next) × (next ≤ limit) ⌝ }
-    ensures { λ _. ⌜ now (rows .exit) ≡ storeIn (now (rows .entry)) row (rowOf (uncounted (kindOf kind) mark at start (next - start)) (row + 1)) ⌝ }
+    ensures { λ _. ⌜ now (rows .exit) ≡ storeIn (now (rows .entry)) row (rowOf (uncounted (kindOf kind) mark at start (next - start)) (row + 1) (ancestryOf ancestry)) ⌝ }
 {
     let link = row + 1;
     let extent = next - start;
@@ -59,6 +61,7 @@ fn put_alone(
             order: 0,
         },
         link,
+        ancestry,
     );
 }
 
@@ -72,9 +75,10 @@ fn alike(
     n: usize,
     start: usize,
     first: usize,
+    ancestry: Ancestry,
 ) -> Run
     requires { ⌜ Here (now message) lent start first × Sized mark n ⌝ }
-    ensures { λ r. ⌜ RunMeets r (now (message .entry)) lent bracket most start first (now (rows .entry)) (now (rows .exit)) ⌝ }
+    ensures { λ r. ⌜ RunMeets r (now (message .entry)) lent bracket most start first (ancestryOf ancestry) (now (rows .entry)) (now (rows .exit)) ⌝ }
 {
     let mut at = start;
     let mut row = first;
@@ -88,7 +92,16 @@ fn alike(
             return Run { at, row, count };
         }
         let payload = at + 1;
-        put_alone(rows, row, Kind::Scalar, message[at], at, payload, next);
+        put_alone(
+            rows,
+            row,
+            Kind::Scalar,
+            message[at],
+            at,
+            payload,
+            next,
+            ancestry,
+        );
         at = next;
         row += 1;
         count += 1;
@@ -104,9 +117,10 @@ fn scalars(
     most: usize,
     start: usize,
     first: usize,
+    ancestry: Ancestry,
 ) -> Run
     requires { ⌜ Here (now message) lent start first ⌝ }
-    ensures { λ r. ⌜ RunMeets r (now (message .entry)) lent bracket most start first (now (rows .entry)) (now (rows .exit)) ⌝ }
+    ensures { λ r. ⌜ RunMeets r (now (message .entry)) lent bracket most start first (ancestryOf ancestry) (now (rows .entry)) (now (rows .exit)) ⌝ }
 {
     if !Mark(byte_at(message, start)).is_scalar() {
         return Run {
@@ -128,7 +142,16 @@ fn scalars(
             return Run { at, row, count };
         }
         let payload = at + 1;
-        put_alone(rows, row, Kind::Scalar, message[at], at, payload, next);
+        put_alone(
+            rows,
+            row,
+            Kind::Scalar,
+            message[at],
+            at,
+            payload,
+            next,
+            ancestry,
+        );
         at = next;
         row += 1;
         count += 1;
@@ -144,9 +167,10 @@ fn texts(
     most: usize,
     start: usize,
     first: usize,
+    ancestry: Ancestry,
 ) -> Run
     requires { ⌜ Here (now message) lent start first ⌝ }
-    ensures { λ r. ⌜ RunMeets r (now (message .entry)) lent bracket most start first (now (rows .entry)) (now (rows .exit)) ⌝ }
+    ensures { λ r. ⌜ RunMeets r (now (message .entry)) lent bracket most start first (ancestryOf ancestry) (now (rows .entry)) (now (rows .exit)) ⌝ }
 {
     let mut at = start;
     let mut row = first;
@@ -160,7 +184,16 @@ fn texts(
             return Run { at, row, count };
         }
         let payload = at + 3;
-        put_alone(rows, row, Kind::Text, Mark::TEXT, at, payload, next);
+        put_alone(
+            rows,
+            row,
+            Kind::Text,
+            Mark::TEXT,
+            at,
+            payload,
+            next,
+            ancestry,
+        );
         at = next;
         row += 1;
         count += 1;
@@ -169,16 +202,25 @@ fn texts(
 }
 
 // The row of a text or a scalar that stands at `at`, under this mark, and ends before `next`.
-fn put_value(rows: &mut [u32], row: usize, mark: u8, at: usize, next: usize)
+fn put_value(rows: &mut [u32], row: usize, mark: u8, at: usize, next: usize, ancestry: Ancestry)
     requires { ⌜ (row ≤ at) × (valueStart mark at ≤ next) × (next ≤ limit) ⌝ }
-    ensures { λ _. ⌜ now (rows .exit) ≡ storeIn (now (rows .entry)) row (rowOf (valueToken mark at next) (row + 1)) ⌝ }
+    ensures { λ _. ⌜ now (rows .exit) ≡ storeIn (now (rows .entry)) row (rowOf (valueToken mark at next) (row + 1) (ancestryOf ancestry)) ⌝ }
 {
     if mark == Mark::TEXT {
         let letters = at + 3;
-        put_alone(rows, row, Kind::Text, Mark::TEXT, at, letters, next);
+        put_alone(
+            rows,
+            row,
+            Kind::Text,
+            Mark::TEXT,
+            at,
+            letters,
+            next,
+            ancestry,
+        );
     } else {
         let payload = at + 1;
-        put_alone(rows, row, Kind::Scalar, mark, at, payload, next);
+        put_alone(rows, row, Kind::Scalar, mark, at, payload, next, ancestry);
     }
 }
 
@@ -190,9 +232,10 @@ fn pairs(
     most: usize,
     start: usize,
     first: usize,
+    ancestry: Ancestry,
 ) -> Run
     requires { ⌜ Here (now message) lent start first ⌝ }
-    ensures { λ r. ⌜ RunMeets r (now (message .entry)) lent braceOpening most start first (now (rows .entry)) (now (rows .exit)) ⌝ }
+    ensures { λ r. ⌜ RunMeets r (now (message .entry)) lent braceOpening most start first (ancestryOf ancestry) (now (rows .entry)) (now (rows .exit)) ⌝ }
 {
     let mut at = start;
     let mut row = first;
@@ -211,8 +254,17 @@ fn pairs(
             return Run { at, row, count };
         }
         let letters = at + 2;
-        put_alone(rows, row, Kind::Key, Mark::TEXT, at, letters, value);
-        put_value(rows, below, message[value], value, next);
+        put_alone(
+            rows,
+            row,
+            Kind::Key,
+            Mark::TEXT,
+            at,
+            letters,
+            value,
+            ancestry,
+        );
+        put_value(rows, below, message[value], value, next, ancestry);
         at = next;
         row = below + 1;
         count += 1;
@@ -228,21 +280,22 @@ fn values(
     most: usize,
     start: usize,
     first: usize,
+    ancestry: Ancestry,
 ) -> Run
     requires { ⌜ Here (now message) lent start first ⌝ }
-    ensures { λ r. ⌜ RunMeets r (now (message .entry)) lent bracket most start first (now (rows .entry)) (now (rows .exit)) ⌝ }
+    ensures { λ r. ⌜ RunMeets r (now (message .entry)) lent bracket most start first (ancestryOf ancestry) (now (rows .entry)) (now (rows .exit)) ⌝ }
 {
     let mark = byte_at(message, start);
     if mark == Mark::TEXT {
-        return texts(message, rows, lent, most, start, first);
+        return texts(message, rows, lent, most, start, first, ancestry);
     }
     let n = size_of(mark);
     if LONGEST < n {
-        return scalars(message, rows, lent, most, start, first);
+        return scalars(message, rows, lent, most, start, first, ancestry);
     }
-    let run = alike(message, rows, lent, most, mark, n, start, first);
+    let run = alike(message, rows, lent, most, mark, n, start, first, ancestry);
     let left = most - run.count;
-    let more = scalars(message, rows, lent, left, run.at, run.row);
+    let more = scalars(message, rows, lent, left, run.at, run.row, ancestry);
     let count = run.count + more.count;
     Run {
         at: more.at,
@@ -261,12 +314,13 @@ pub fn several(
     most: usize,
     start: usize,
     first: usize,
+    ancestry: Ancestry,
 ) -> Run
     requires { ⌜ Here (now message) lent start first ⌝ }
-    ensures { λ r. ⌜ RunMeets r (now (message .entry)) lent (openingOf brace) most start first (now (rows .entry)) (now (rows .exit)) ⌝ }
+    ensures { λ r. ⌜ RunMeets r (now (message .entry)) lent (openingOf brace) most start first (ancestryOf ancestry) (now (rows .entry)) (now (rows .exit)) ⌝ }
 {
     if brace {
-        return pairs(message, rows, lent, most, start, first);
+        return pairs(message, rows, lent, most, start, first, ancestry);
     }
-    values(message, rows, lent, most, start, first)
+    values(message, rows, lent, most, start, first, ancestry)
 }

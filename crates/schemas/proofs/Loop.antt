@@ -14,7 +14,7 @@ use Rattle.format.specs.Refusals.{endsTooEarly}
 use Rattle.format.specs.Marks.{Opening, opens, closes}
 use Rattle.format.specs.Tokens.{Kind, key as keyKind, Forest, none, size, isKind}
 use Rattle.format.specs.Records.{totalWidth}
-use Rattle.format.specs.Rows.{rowOf}
+use Rattle.format.specs.Rows.{Ancestry, heldBy, rowOf}
 use Rattle.format.specs.Bytes.{byte}
 use Rattle.format.specs.Sequences.{Reader, _⨾_, until}
 use Rattle.format.specs.Schemas.{group, enclosed}
@@ -56,7 +56,7 @@ module _ (m : List ℕ) (closing : ℕ) (item : Reader) where
 
 -- ---- the loop
 
-module _ (m : List ℕ) (lent : ℕ) (kind : Kind) (o : Opening) (item : Reader) (at row offset : ℕ) (before : List ℕ) where
+module _ (m : List ℕ) (lent : ℕ) (kind : Kind) (o : Opening) (item : Reader) (at row offset : ℕ) (ancestry : Ancestry) (before : List ℕ) where
   abbrev inner : Parsed Forest
   inner = (item ⨾ rest m (closes o) item (length m)) (at + 1) (row + 1)
 
@@ -77,21 +77,21 @@ module _ (m : List ℕ) (lent : ℕ) (kind : Kind) (o : Opening) (item : Reader)
     pub bounds : Bounds here next end count
     pub fuel : ℕ
     pub enough : length m ≤ here + 1 + fuel
-    pub sofar : Sofar inner (row + 1) offset before ((item ⨾ rest m (closes o) item fuel) here next) next count end now
+    pub sofar : Sofar inner (row + 1) offset ancestry before ((item ⨾ rest m (closes o) item fuel) here next) next count end now
 
   -- a member ends here
   pub record After (here next end count : ℕ) (now : List ℕ) : Type 0 where
     pub bounds : Bounds here next end count
     pub fuel : ℕ
     pub enough : length m ≤ here + fuel
-    pub sofar : Sofar inner (row + 1) offset before (rest m (closes o) item fuel here next) next count end now
+    pub sofar : Sofar inner (row + 1) offset ancestry before (rest m (closes o) item fuel here next) next count end now
 
   pub loop-start : Here m lent at row → at < length m → row < lent → offset ≤ over → Before (at + 1) (row + 1) offset 0 before
   loop-start h i l w = record {
     bounds = record { short = h .short; on = omega arith; inside = omega arith; rowOn = omega arith; rowLent = omega arith; rowByte = omega arith; rise = omega arith; most = w; few = omega arith };
     fuel = length m;
     enough = omega arith;
-    sofar = sofar-start inner inner (row + 1) offset before w refl;
+    sofar = sofar-start inner inner (row + 1) offset ancestry before w refl;
   }
 
   module _ {here next end count : ℕ} {now : List ℕ} where
@@ -101,7 +101,7 @@ module _ (m : List ℕ) (lent : ℕ) (kind : Kind) (o : Opening) (item : Reader)
     loop-fault n p b e = let q = sofar-fault (b .sofar) n p (seq-fault item _ here next n p e) in rw q
 
     -- it is read
-    pub loop-read : (here′ next′ end′ : ℕ) (after : List ℕ) → Before here next end count now → Read (item here next) next end now after here′ next′ end′
+    pub loop-read : (here′ next′ end′ : ℕ) (after : List ℕ) → Before here next end count now → Read (item here next) next end ancestry now after here′ next′ end′
         → Ends (here + 1) (length m) lent end here′ next′ end′ → After here′ next′ end′ (count + 1) after
     loop-read here′ next′ end′ after b r e =
         let x = b .bounds in
@@ -119,11 +119,11 @@ module _ (m : List ℕ) (lent : ℕ) (kind : Kind) (o : Opening) (item : Reader)
         record { bounds = a .bounds; fuel = g .0; enough = g .1; sofar = sofar-as (a .sofar) _ (g .2) }
 
     -- there is no more
-    pub loop-end : After here next end count now → stands m here (closes o) ≡ true → isKind keyKind kind ≡ false → (after : List ℕ)
-        → after ≡ store now row (rowOf (groupAt kind (opens o) at offset (end - offset) count) next)
-        → Read (enclosed m lent kind o item at row) row offset before after (here + 1) next end
+    pub loop-end : After here next end count now → stands m here (closes o) ≡ true → isKind keyKind kind ≡ false → (outer : Ancestry) → ancestry ≡ heldBy row outer → (after : List ℕ)
+        → after ≡ store now row (rowOf (groupAt kind (opens o) at offset (end - offset) count) next outer)
+        → Read (enclosed m lent kind o item at row) row offset outer before after (here + 1) next end
     unfolding enclosed onto _>>=_
-    loop-end a s k after e =
+    loop-end a s k outer i after e =
         let f = a .sofar .forest in
         let r = rest-closed m (closes o) item (a .fuel) here next (a .enough) s in
         let q : inner ≡ done (f, here) = a .sofar .is ∙ rw (r, append-none f) in
@@ -138,32 +138,32 @@ module _ (m : List ℕ) (lent : ℕ) (kind : Kind) (o : Opening) (item : Reader)
           lie = λ h.
               let x : end - offset ≡ totalWidth f = omega (arith, a .sofar .wide) in
               let y : next ≡ suc row + size f = omega (arith, a .sofar .took) in
-              e ∙ rw (a .sofar .lie h, x, ← a .sofar .counted) (group-lies kind o at row offset next f before k y);
+              e ∙ rw (a .sofar .lie h, i, x, ← a .sofar .counted) (group-lies kind o at row offset next outer f before k y);
         }
 
 -- ---- one member, by where it begins
 
 -- what a turn of the loop has of it
-pub record Member (m : List ℕ) (lent : ℕ) (item : Reader) (here next end : ℕ) (before after : List ℕ) (k : Kinds) : Type 0 where
+pub record Member (m : List ℕ) (lent : ℕ) (item : Reader) (here next end : ℕ) (ancestry : Ancestry) (before after : List ℕ) (k : Kinds) : Type 0 where
   pub kept : length after ≡ length before
-  pub meets : Meets k (item here next) next end before after
+  pub meets : Meets k (item here next) next end ancestry before after
   pub bounds : Within k (here + 1) (length m) lent end
 
 -- it is read or refused at once; or its members remain
-pub member-ended : (m : List ℕ) (lent levels here next end : ℕ) (item : Reader) (before after : List ℕ) (k : Kinds) (r : Start) → r ≡ Ended k → length after ≡ length before
-    → StartMeets r m lent levels (item here next) next end before after → StartWithin r here (length m) lent levels end → Member m lent item here next end before after k
-member-ended m lent levels here next end item before after k r e l s w = record { kept = l; meets = rw e at s; bounds = rw e at w }
+pub member-ended : (m : List ℕ) (lent levels here next end : ℕ) (item : Reader) (ancestry : Ancestry) (before after : List ℕ) (k : Kinds) (r : Start) → r ≡ Ended k → length after ≡ length before
+    → StartMeets r m lent levels (item here next) next end ancestry before after → StartWithin r here (length m) lent levels end → Member m lent item here next end ancestry before after k
+member-ended m lent levels here next end item ancestry before after k r e l s w = record { kept = l; meets = rw e at s; bounds = rw e at w }
 
-pub member-array : (m : List ℕ) (lent levels here next end a b : ℕ) (item : Reader) (before mid after : List ℕ) (k : Kinds) (r : Start) → r ≡ Array a b → length after ≡ length before
-    → StartMeets r m lent levels (item here next) next end before mid → StartWithin r here (length m) lent levels end
-    → Meets k (arrayAt m lent (levels - 1) a b) b end mid after → Within k (a + 1) (length m) lent end → Member m lent item here next end before after k
-member-array m lent levels here next end a b item before mid after k r e l s w x y =
+pub member-array : (m : List ℕ) (lent levels here next end a b : ℕ) (item : Reader) (ancestry : Ancestry) (before mid after : List ℕ) (k : Kinds) (r : Start) → r ≡ Array a b → length after ≡ length before
+    → StartMeets r m lent levels (item here next) next end ancestry before mid → StartWithin r here (length m) lent levels end
+    → Meets k (arrayAt m lent (levels - 1) a b) b end ancestry mid after → Within k (a + 1) (length m) lent end → Member m lent item here next end ancestry before after k
+member-array m lent levels here next end a b item ancestry before mid after k r e l s w x y =
     let q = rw e at w in
     record { kept = l; meets = sofar-meets k after (rw e at s) x; bounds = within-from k (a + 1) (here + 1) (length m) lent end (omega arith) y }
 
-pub member-record : (m : List ℕ) (lent levels here next end a b : ℕ) (item : Reader) (before mid after : List ℕ) (k : Kinds) (r : Start) → r ≡ Record a b → length after ≡ length before
-    → StartMeets r m lent levels (item here next) next end before mid → StartWithin r here (length m) lent levels end
-    → Meets k (recordAt m lent (levels - 1) a b) b end mid after → Within k (a + 1) (length m) lent end → Member m lent item here next end before after k
-member-record m lent levels here next end a b item before mid after k r e l s w x y =
+pub member-record : (m : List ℕ) (lent levels here next end a b : ℕ) (item : Reader) (ancestry : Ancestry) (before mid after : List ℕ) (k : Kinds) (r : Start) → r ≡ Record a b → length after ≡ length before
+    → StartMeets r m lent levels (item here next) next end ancestry before mid → StartWithin r here (length m) lent levels end
+    → Meets k (recordAt m lent (levels - 1) a b) b end ancestry mid after → Within k (a + 1) (length m) lent end → Member m lent item here next end ancestry before after k
+member-record m lent levels here next end a b item ancestry before mid after k r e l s w x y =
     let q = rw e at w in
     record { kept = l; meets = sofar-meets k after (rw e at s) x; bounds = within-from k (a + 1) (here + 1) (length m) lent end (omega arith) y }

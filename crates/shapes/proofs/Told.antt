@@ -8,16 +8,16 @@ use Rattle.format.specs.Outcome.{Parsed, done}
 use Rattle.format.specs.Limits.{limit}
 use Rattle.format.specs.Tokens.{Forest, none, plainCount, size}
 use Rattle.format.specs.Dimensions.{Shape, shaped}
-use Rattle.format.specs.Rows.{rows}
+use Rattle.format.specs.Rows.{Ancestry, rows}
 use Rattle.rows.specs.Overlay.{lay}
 use Rattle.dimensions.specs.Answers.{Laid}
 use Rattle.shapes.specs.Answers.{Told}
 
 -- a plain count has no dimensions
-pub told-plain : (n next row : ℕ) (words : List ℕ) → n ≤ limit
-    → Told (done (record { many = n; dimensions = none; order = plainCount }, next)) row words words next row n plainCount
+pub told-plain : (n next row : ℕ) (ancestry : Ancestry) (words : List ℕ) → n ≤ limit
+    → Told (done (record { many = n; dimensions = none; order = plainCount }, next)) row ancestry words words next row n plainCount
 unfolding size rows lay
-told-plain n next row words h =
+told-plain n next row ancestry words h =
     record {
       shape = record { many = n; dimensions = none; order = plainCount };
       read = refl;
@@ -28,8 +28,8 @@ told-plain n next row words h =
     }
 
 -- the shape of dimensions
-pub told-shaped : (o : Parsed Forest) (s : Parsed Shape) (order row next end row′ many : ℕ) (before now : List ℕ) (l : Laid o row before now next row′ many)
-    → s ≡ done (shaped order (l .forest), end) → Told s row before now end row′ many order
+pub told-shaped : (o : Parsed Forest) (s : Parsed Shape) (order row next end row′ many : ℕ) (ancestry : Ancestry) (before now : List ℕ) (l : Laid o row ancestry before now next row′ many)
+    → s ≡ done (shaped order (l .forest), end) → Told s row ancestry before now end row′ many order
 unfolding shaped
-told-shaped o s order row next end row′ many before now l e =
+told-shaped o s order row next end row′ many ancestry before now l e =
     record { shape = shaped order (l .forest); read = e; took = l .took; times = l .times; ordered = refl; lie = l .lie }

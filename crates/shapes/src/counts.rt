@@ -2,12 +2,15 @@
 use crate::vectors::vector;
 use dimensions::Dims;
 use format::marks::Mark;
+use rows::Ancestry;
 use scan::integers::Parsed;
 use scan::integers::integer;
 ghost use mathlib.Core.List.{List};
 ghost use Prim.Native.Nat.{ℕ, _+_, _≤_, _<_};
 ghost use lib.ListN.{length};
+ghost use Rattle.format.specs.Rows.{Ancestry as AncestryIn};
 ghost use Rattle.format.specs.Dimensions.{slowest as slowestAt, fastest as fastestAt, plain as plainAt, shape as shapeAt};
+ghost use Rattle.rows.specs.Row.{ancestryOf};
 ghost use Rattle.tokens.specs.Answers.{Here};
 ghost use Rattle.shapes.specs.Answers.{Shapes, ShapeWithin};
 
@@ -24,12 +27,19 @@ pub enum Shaped {
 }
 
 // A vector: first index slowest.
-fn slowest(message: &[u8], rows: &mut [u32], lent: usize, at: usize, row: usize) -> Shaped
+fn slowest(
+    message: &[u8],
+    rows: &mut [u32],
+    lent: usize,
+    at: usize,
+    row: usize,
+    ancestry: Ancestry,
+) -> Shaped
     requires { ⌜ Here (now message) lent at row × (at < length (now message)) ⌝ }
-    ensures meets { λ r. ⌜ Shapes r (slowestAt (now (message .entry)) lent at row) row (now (rows .entry)) (now (rows .exit)) ⌝ }
+    ensures meets { λ r. ⌜ Shapes r (slowestAt (now (message .entry)) lent at row) row (ancestryOf ancestry) (now (rows .entry)) (now (rows .exit)) ⌝ }
     ensures bounds { λ r. ⌜ ShapeWithin r (at + 1) (length (now (message .entry))) lent ⌝ }
 {
-    match vector(message, rows, lent, at, at + 1, row) {
+    match vector(message, rows, lent, at, at + 1, row, ancestry) {
         Dims::Fault(number, place) => Shaped::Refused(number, place),
         Dims::Next(next, link, many) => Shaped::Shape {
             next: next,
@@ -41,12 +51,19 @@ fn slowest(message: &[u8], rows: &mut [u32], lent: usize, at: usize, row: usize)
 }
 
 // A vector inside a further `[` and `]`: first index fastest.
-fn fastest(message: &[u8], rows: &mut [u32], lent: usize, at: usize, row: usize) -> Shaped
+fn fastest(
+    message: &[u8],
+    rows: &mut [u32],
+    lent: usize,
+    at: usize,
+    row: usize,
+    ancestry: Ancestry,
+) -> Shaped
     requires { ⌜ Here (now message) lent at row × (at + 1 < length (now message)) ⌝ }
-    ensures meets { λ r. ⌜ Shapes r (fastestAt (now (message .entry)) lent at row) row (now (rows .entry)) (now (rows .exit)) ⌝ }
+    ensures meets { λ r. ⌜ Shapes r (fastestAt (now (message .entry)) lent at row) row (ancestryOf ancestry) (now (rows .entry)) (now (rows .exit)) ⌝ }
     ensures bounds { λ r. ⌜ ShapeWithin r (at + 1) (length (now (message .entry))) lent ⌝ }
 {
-    match vector(message, rows, lent, at, at + 2, row) {
+    match vector(message, rows, lent, at, at + 2, row, ancestry) {
         Dims::Fault(number, place) => Shaped::Refused(number, place),
         Dims::Next(next, link, many) => {
             let end = message.len();
@@ -68,7 +85,7 @@ fn fastest(message: &[u8], rows: &mut [u32], lent: usize, at: usize, row: usize)
 
 // An integer: a plain count, which has no rows.
 fn plain(message: &[u8], at: usize, row: usize) -> Shaped
-    ensures meets { λ r. ⌜ ((rowsLent : ℕ) (words : List ℕ) → Shapes r (plainAt (now (message .entry)) rowsLent at) row words words) ⌝ }
+    ensures meets { λ r. ⌜ ((rowsLent : ℕ) (ancestry : AncestryIn) (words : List ℕ) → Shapes r (plainAt (now (message .entry)) rowsLent at) row ancestry words words) ⌝ }
     ensures bounds { λ r. ⌜ ((rowsLent : ℕ) → row ≤ rowsLent → row ≤ at → ShapeWithin r (at + 1) (length (now (message .entry))) rowsLent) ⌝ }
 {
     match integer(message, at) {
@@ -93,9 +110,10 @@ pub fn shape(
     wraps: bool,
     at: usize,
     row: usize,
+    ancestry: Ancestry,
 ) -> Shaped
     requires { ⌜ Here (now message) lent at row ⌝ }
-    ensures meets { λ r. ⌜ Shapes r (shapeAt (now (message .entry)) lent wraps at row) row (now (rows .entry)) (now (rows .exit)) ⌝ }
+    ensures meets { λ r. ⌜ Shapes r (shapeAt (now (message .entry)) lent wraps at row) row (ancestryOf ancestry) (now (rows .entry)) (now (rows .exit)) ⌝ }
     ensures bounds { λ r. ⌜ ShapeWithin r (at + 1) (length (now (message .entry))) lent ⌝ }
 {
     let end = message.len();
@@ -110,10 +128,10 @@ pub fn shape(
         return Shaped::Refused(2, end);
     }
     if message[second] != Mark::ARRAY {
-        return slowest(message, rows, lent, at, row);
+        return slowest(message, rows, lent, at, row, ancestry);
     }
     if wraps {
-        return fastest(message, rows, lent, at, row);
+        return fastest(message, rows, lent, at, row, ancestry);
     }
-    slowest(message, rows, lent, at, row)
+    slowest(message, rows, lent, at, row, ancestry)
 }

@@ -6,6 +6,7 @@ use dimensions::forms::marked;
 use dimensions::products::times;
 use format::limits::DIMENSION_LIMIT;
 use format::marks::Mark;
+use rows::Ancestry;
 use scan::integers::Parsed;
 use scan::integers::integer;
 ghost use lib.ListN.{length};
@@ -13,6 +14,7 @@ ghost use Rattle.format.specs.Limits.{dimensionLimit};
 ghost use Rattle.format.specs.Sequences.{repeat, _⨾_};
 ghost use Rattle.format.specs.Dimensions as Dimensions;
 ghost use Rattle.format.specs.Dimensions.{counted as countedAt, countedBare as countedBareAt, vector as vectorAt};
+ghost use Rattle.rows.specs.Row.{ancestryOf};
 ghost use Rattle.tokens.specs.Answers.{Here};
 ghost use Rattle.dimensions.specs.Answers.{Meets, Within, itemOf, Wide};
 
@@ -28,9 +30,10 @@ fn repeated(
     form: Form,
     at: usize,
     row: usize,
+    ancestry: Ancestry,
 ) -> Dims
     requires { ⌜ Here (now message) lent at row × Wide form ⌝ }
-    ensures meets { λ r. ⌜ Meets r (repeat n (itemOf (now (message .entry)) lent form) at row) row (now (rows .entry)) (now (rows .exit)) ⌝ }
+    ensures meets { λ r. ⌜ Meets r (repeat n (itemOf (now (message .entry)) lent form) at row) row (ancestryOf ancestry) (now (rows .entry)) (now (rows .exit)) ⌝ }
     ensures bounds { λ r. ⌜ Within r at (length (now (message .entry))) lent ⌝ }
 {
     let mut left = n;
@@ -38,7 +41,7 @@ fn repeated(
     let mut free = row;
     let mut many = 1;
     while 0 < left {
-        match item(message, rows, lent, form, here, free) {
+        match item(message, rows, lent, form, here, free, ancestry) {
             Dims::Fault(number, wrong) => return Dims::Fault(number, wrong),
             Dims::Next(next, link, count) => {
                 many = times(many, count);
@@ -60,9 +63,10 @@ fn counted(
     form: Form,
     at: usize,
     row: usize,
+    ancestry: Ancestry,
 ) -> Dims
     requires { ⌜ Here (now message) lent at row × Wide form ⌝ }
-    ensures meets { λ r. ⌜ Meets r (countedAt (now (message .entry)) lent place (itemOf (now (message .entry)) lent form) at row) row (now (rows .entry)) (now (rows .exit)) ⌝ }
+    ensures meets { λ r. ⌜ Meets r (countedAt (now (message .entry)) lent place (itemOf (now (message .entry)) lent form) at row) row (ancestryOf ancestry) (now (rows .entry)) (now (rows .exit)) ⌝ }
     ensures bounds { λ r. ⌜ Within r at (length (now (message .entry))) lent ⌝ }
 {
     match integer(message, at) {
@@ -74,7 +78,7 @@ fn counted(
             if MOST_DIMENSIONS < n {
                 return Dims::Fault(6, place);
             }
-            repeated(message, rows, lent, n, form, next, row)
+            repeated(message, rows, lent, n, form, next, row, ancestry)
         }
     }
 }
@@ -87,9 +91,10 @@ fn counted_bare(
     place: usize,
     at: usize,
     row: usize,
+    ancestry: Ancestry,
 ) -> Dims
     requires { ⌜ Here (now message) lent at row ⌝ }
-    ensures meets { λ r. ⌜ Meets r (countedBareAt (now (message .entry)) lent place at row) row (now (rows .entry)) (now (rows .exit)) ⌝ }
+    ensures meets { λ r. ⌜ Meets r (countedBareAt (now (message .entry)) lent place at row) row (ancestryOf ancestry) (now (rows .entry)) (now (rows .exit)) ⌝ }
     ensures bounds { λ r. ⌜ Within r at (length (now (message .entry))) lent ⌝ }
 {
     let end = message.len();
@@ -107,7 +112,16 @@ fn counted_bare(
     if message[second] != Mark::COUNT {
         return Dims::Fault(3, second);
     }
-    counted(message, rows, lent, place, Form::Bare(mark), at + 2, row)
+    counted(
+        message,
+        rows,
+        lent,
+        place,
+        Form::Bare(mark),
+        at + 2,
+        row,
+        ancestry,
+    )
 }
 
 // An integer record, and more of them up to `]`. A ninth is read before it is refused.
@@ -118,9 +132,10 @@ fn listed(
     place: usize,
     at: usize,
     row: usize,
+    ancestry: Ancestry,
 ) -> Dims
     requires { ⌜ Here (now message) lent at row ⌝ }
-    ensures meets { λ r. ⌜ Meets r ((Dimensions.marked (now (message .entry)) lent ⨾ Dimensions.listed (now (message .entry)) lent dimensionLimit place) at row) row (now (rows .entry)) (now (rows .exit)) ⌝ }
+    ensures meets { λ r. ⌜ Meets r ((Dimensions.marked (now (message .entry)) lent ⨾ Dimensions.listed (now (message .entry)) lent dimensionLimit place) at row) row (ancestryOf ancestry) (now (rows .entry)) (now (rows .exit)) ⌝ }
     ensures bounds { λ r. ⌜ Within r at (length (now (message .entry))) lent ⌝ }
 {
     let end = message.len();
@@ -129,7 +144,7 @@ fn listed(
     let mut free = row;
     let mut many = 1;
     loop {
-        match marked(message, rows, lent, here, free) {
+        match marked(message, rows, lent, here, free, ancestry) {
             Dims::Fault(number, wrong) => return Dims::Fault(number, wrong),
             Dims::Next(next, link, count) => {
                 many = times(many, count);
@@ -158,9 +173,10 @@ pub fn vector(
     place: usize,
     at: usize,
     row: usize,
+    ancestry: Ancestry,
 ) -> Dims
     requires { ⌜ Here (now message) lent at row ⌝ }
-    ensures meets { λ r. ⌜ Meets r (vectorAt (now (message .entry)) lent place at row) row (now (rows .entry)) (now (rows .exit)) ⌝ }
+    ensures meets { λ r. ⌜ Meets r (vectorAt (now (message .entry)) lent place at row) row (ancestryOf ancestry) (now (rows .entry)) (now (rows .exit)) ⌝ }
     ensures bounds { λ r. ⌜ Within r at (length (now (message .entry))) lent ⌝ }
 {
     let end = message.len();
@@ -172,10 +188,19 @@ pub fn vector(
         return Dims::Fault(6, place);
     }
     if b == Mark::COUNT {
-        return counted(message, rows, lent, place, Form::Marked, at + 1, row);
+        return counted(
+            message,
+            rows,
+            lent,
+            place,
+            Form::Marked,
+            at + 1,
+            row,
+            ancestry,
+        );
     }
     if b == Mark::TYPE {
-        return counted_bare(message, rows, lent, place, at + 1, row);
+        return counted_bare(message, rows, lent, place, at + 1, row, ancestry);
     }
-    listed(message, rows, lent, place, at, row)
+    listed(message, rows, lent, place, at, row, ancestry)
 }

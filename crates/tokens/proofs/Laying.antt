@@ -5,7 +5,7 @@ use mathlib.Core.List.{List, append-nil}
 use native.Mathlib.Omega.{arith}
 use Rattle.format.specs.Outcome.{Outcome, Parsed, done, _>>=_}
 use Rattle.format.specs.Tokens.{Kind, Token, Forest, none, node, alone, uncounted, size, members}
-use Rattle.format.specs.Rows.{rowOf, rows}
+use Rattle.format.specs.Rows.{Ancestry, heldBy, rowOf, rows}
 use Rattle.rows.specs.Row.{store}
 use Rattle.rows.specs.Overlay.{lay}
 use Rattle.rows.proofs.Overlay.{lay-front}
@@ -17,10 +17,10 @@ use Rattle.tokens.specs.declared.scalars.Place.the-variants.{At, Refused
 use Rattle.tokens.proofs.Cases.{after}
 
 -- a token with nothing below it
-pub laid-alone : (t : Token) (row next : ℕ) (before now : List ℕ) → now ≡ store before row (rowOf t (row + 1))
-    → Laid (done (alone t, next)) row (members (alone t)) before now next (row + 1)
+pub laid-alone : (t : Token) (row next : ℕ) (ancestry : Ancestry) (before now : List ℕ) → now ≡ store before row (rowOf t (row + 1) ancestry)
+    → Laid (done (alone t, next)) row (members (alone t)) ancestry before now next (row + 1)
 unfolding size rows lay
-laid-alone t row next before now e =
+laid-alone t row next ancestry before now e =
     let q : suc row + 0 ≡ row + 1 = omega arith in
     record { forest = alone t; read = refl; counted = refl; took = omega arith; lie = rw q e }
 
@@ -37,11 +37,11 @@ within-from (Fault n p) low low′ high rowsLent h w = tt
 within-from (Next next row) low low′ high rowsLent h w = omega arith
 
 -- a token over those below it, whose rows were stored before its own
-pub laid-over : (t : Token) (o : Parsed Forest) (row k next row′ end : ℕ) (before mid now : List ℕ) (l : Laid o (row + 1) k before mid next row′)
-    → now ≡ store mid row (rowOf t row′)
-    → Laid (done (node t (l .forest) none, end)) row (members (node t (l .forest) none)) before now end row′
+pub laid-over : (t : Token) (o : Parsed Forest) (row k next row′ end : ℕ) (ancestry : Ancestry) (before mid now : List ℕ) (l : Laid o (row + 1) k (heldBy row ancestry) before mid next row′)
+    → now ≡ store mid row (rowOf t row′ ancestry)
+    → Laid (done (node t (l .forest) none, end)) row (members (node t (l .forest) none)) ancestry before now end row′
 unfolding size rows
-laid-over t o row k next row′ end before mid now l e =
+laid-over t o row k next row′ end ancestry before mid now l e =
     let f = l .forest in
     let q : row′ ≡ suc row + size f = omega (arith, l .took) in
     let p : row + 1 ≡ suc row = omega arith in
@@ -50,13 +50,13 @@ laid-over t o row k next row′ end before mid now l e =
       read = refl;
       counted = refl;
       took = omega arith;
-      lie = e ∙ rw (l .lie, q, p, append-nil) (lay-front before row (rowOf t (suc row + size f)) (rows (suc row) f));
+      lie = e ∙ rw (l .lie, q, p, append-nil (rows (suc row) (heldBy row ancestry) f)) (lay-front before row (rowOf t (suc row + size f) ancestry) (rows (suc row) (heldBy row ancestry) f));
     }
 
 -- the same where those below it are given
-pub laid-under : (t : Token) (under : Forest) (row end link : ℕ) (before mid now : List ℕ) → link ≡ row + 1 + size under
-    → mid ≡ lay before (row + 1) (rows (row + 1) under) → now ≡ store mid row (rowOf t link)
-    → Laid (done (node t under none, end)) row (members (node t under none)) before now end link
-laid-under t under row end link before mid now took lie e =
-    laid-over t (done (under, end)) row (members under) end link end before mid now
-    (record { forest = under; read = refl; counted = refl; took = took; lie = lie }) e
+pub laid-under : (t : Token) (below : Forest) (row end link : ℕ) (ancestry : Ancestry) (before mid now : List ℕ) → link ≡ row + 1 + size below
+    → mid ≡ lay before (row + 1) (rows (row + 1) (heldBy row ancestry) below) → now ≡ store mid row (rowOf t link ancestry)
+    → Laid (done (node t below none, end)) row (members (node t below none)) ancestry before now end link
+laid-under t below row end link ancestry before mid now took lie e =
+    laid-over t (done (below, end)) row (members below) end link end ancestry before mid now
+    (record { forest = below; read = refl; counted = refl; took = took; lie = lie }) e

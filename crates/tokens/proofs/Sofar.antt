@@ -6,7 +6,7 @@ use mathlib.Core.List.{List}
 use native.Mathlib.Omega.{arith}
 use Rattle.format.specs.Outcome.{Parsed, fault, done, _>>=_}
 use Rattle.format.specs.Tokens.{Forest, none, size, _⊕_, members}
-use Rattle.format.specs.Rows.{rows}
+use Rattle.format.specs.Rows.{Ancestry, rows}
 use Rattle.format.specs.Sequences.{Reader, _⨾_}
 use Rattle.format.proofs.Forests.{append-none, ⊕-assoc, size-append, members-append, length-rows, rows-append}
 use Rattle.rows.specs.Overlay.{lay}
@@ -16,11 +16,12 @@ use Rattle.tokens.specs.declared.Step.{Step}
 use Rattle.tokens.specs.declared.Step.the-variants.{Fault, Next}
 
 -- the rows of one forest and then those of another
-pub lay-forest : (ws : List ℕ) (row : ℕ) (f g : Forest) → lay (lay ws row (rows row f)) (row + size f) (rows (row + size f) g) ≡ lay ws row (rows row (f ⊕ g))
-lay-forest ws row f g =
-    ap (λ k. lay (lay ws row (rows row f)) (row + k) (rows (row + size f) g)) (sym (length-rows row f))
-    ∙ lay-append ws row (rows row f) (rows (row + size f) g)
-    ∙ ap (λ l. lay ws row l) (sym (rows-append row f g))
+pub lay-forest : (ws : List ℕ) (row : ℕ) (a : Ancestry) (f g : Forest)
+    → lay (lay ws row (rows row a f)) (row + size f) (rows (row + size f) a g) ≡ lay ws row (rows row a (f ⊕ g))
+lay-forest ws row a f g =
+    ap (λ k. lay (lay ws row (rows row a f)) (row + k) (rows (row + size f) a g)) (sym (length-rows row a f))
+    ∙ lay-append ws row (rows row a f) (rows (row + size f) a g)
+    ∙ ap (λ l. lay ws row l) (sym (rows-append row a f g))
 
 -- ---- what remains
 
@@ -47,27 +48,27 @@ pub seq-fault : (item rest : Reader) (at row n p : ℕ) → item at row ≡ faul
 unfolding _⨾_ _>>=_
 seq-fault item rest at row n p e = rw e
 
-pub record Sofar (whole : Parsed Forest) (first : ℕ) (before : List ℕ) (remains : Parsed Forest) (row count : ℕ) (now : List ℕ) : Type 0 where
+pub record Sofar (whole : Parsed Forest) (first : ℕ) (ancestry : Ancestry) (before : List ℕ) (remains : Parsed Forest) (row count : ℕ) (now : List ℕ) : Type 0 where
   pub forest : Forest
   pub is : whole ≡ onto forest remains
   pub counted : members forest ≡ count
   pub took : row ≡ first + size forest
-  pub lie : now ≡ lay before first (rows first forest)
+  pub lie : now ≡ lay before first (rows first ancestry forest)
 
 -- nothing is read yet
-pub sofar-start : (o : Parsed Forest) (first : ℕ) (before : List ℕ) → Sofar o first before o first 0 before
+pub sofar-start : (o : Parsed Forest) (first : ℕ) (ancestry : Ancestry) (before : List ℕ) → Sofar o first ancestry before o first 0 before
 unfolding size members rows lay
-sofar-start o first before = record { forest = none; is = sym (onto-none o); counted = refl; took = omega arith; lie = refl }
+sofar-start o first ancestry before = record { forest = none; is = sym (onto-none o); counted = refl; took = omega arith; lie = refl }
 
-module _ {whole : Parsed Forest} {first : ℕ} {before : List ℕ} {remains : Parsed Forest} {row count : ℕ} {now : List ℕ}
-    (s : Sofar whole first before remains row count now) where
+module _ {whole : Parsed Forest} {first : ℕ} {ancestry : Ancestry} {before : List ℕ} {remains : Parsed Forest} {row count : ℕ} {now : List ℕ}
+    (s : Sofar whole first ancestry before remains row count now) where
   -- what remains is said otherwise
-  pub sofar-as : (o : Parsed Forest) → remains ≡ o → Sofar whole first before o row count now
+  pub sofar-as : (o : Parsed Forest) → remains ≡ o → Sofar whole first ancestry before o row count now
   sofar-as o e = record { forest = s .forest; is = rw e at (s .is); counted = s .counted; took = s .took; lie = s .lie }
 
   -- one more is read
-  pub sofar-step : (item rest : Reader) (at next row′ k : ℕ) (after : List ℕ) → remains ≡ (item ⨾ rest) at row → Laid (item at row) row k now after next row′
-      → Sofar whole first before (rest next row′) row′ (count + k) after
+  pub sofar-step : (item rest : Reader) (at next row′ k : ℕ) (after : List ℕ) → remains ≡ (item ⨾ rest) at row → Laid (item at row) row k ancestry now after next row′
+      → Sofar whole first ancestry before (rest next row′) row′ (count + k) after
   sofar-step item rest at next row′ k after e l =
       let f = s .forest in
       let g = l .forest in
@@ -77,7 +78,7 @@ module _ {whole : Parsed Forest} {first : ℕ} {before : List ℕ} {remains : Pa
         is = s .is ∙ rw (q, ← l .took) (onto-onto f g (rest next row′));
         counted = members-append f g ∙ omega (arith, s .counted, l .counted);
         took = omega (arith, s .took, l .took, size-append f g);
-        lie = l .lie ∙ rw (s .lie, s .took) (lay-forest before first f g);
+        lie = l .lie ∙ rw (s .lie, s .took) (lay-forest before first ancestry f g);
       }
 
   -- one more is refused
@@ -86,7 +87,7 @@ module _ {whole : Parsed Forest} {first : ℕ} {before : List ℕ} {remains : Pa
   sofar-fault n p e = s .is ∙ rw e
 
   -- there is no more
-  pub sofar-end : (end : ℕ) → remains ≡ done (none, end) → Laid whole first count before now end row
+  pub sofar-end : (end : ℕ) → remains ≡ done (none, end) → Laid whole first count ancestry before now end row
   unfolding onto _>>=_
   sofar-end end e =
       record { forest = s .forest; read = s .is ∙ rw (e, append-none (s .forest)); counted = s .counted; took = s .took; lie = s .lie }
@@ -94,27 +95,27 @@ module _ {whole : Parsed Forest} {first : ℕ} {before : List ℕ} {remains : Pa
 -- ---- one is read, and then another
 
 -- what is read after tokens that lie already
-pub laid-after : {b : Parsed Forest} {row j k row′ end row″ : ℕ} {before mid after : List ℕ} (f : Forest)
-    → members f ≡ j → row′ ≡ row + size f → mid ≡ lay before row (rows row f) → Laid b row′ k mid after end row″
-    → Laid (onto f b) row (j + k) before after end row″
+pub laid-after : {b : Parsed Forest} {row j k row′ end row″ : ℕ} {ancestry : Ancestry} {before mid after : List ℕ} (f : Forest)
+    → members f ≡ j → row′ ≡ row + size f → mid ≡ lay before row (rows row ancestry f) → Laid b row′ k ancestry mid after end row″
+    → Laid (onto f b) row (j + k) ancestry before after end row″
 unfolding onto _>>=_
-laid-after {row = row} {before = before} f counted took lie h =
+laid-after {row = row} {ancestry = ancestry} {before = before} f counted took lie h =
     record {
       forest = f ⊕ h .forest;
       read = rw (h .read);
       counted = members-append f (h .forest) ∙ omega (arith, counted, h .counted);
       took = omega (arith, took, h .took, size-append f (h .forest));
-      lie = h .lie ∙ rw (lie, took) (lay-forest before row f (h .forest));
+      lie = h .lie ∙ rw (lie, took) (lay-forest before row ancestry f (h .forest));
     }
 
-pub laid-onto : {a b : Parsed Forest} {row j k next row′ end row″ : ℕ} {before mid after : List ℕ} (l : Laid a row j before mid next row′) → Laid b row′ k mid after end row″
-    → Laid (onto (l .forest) b) row (j + k) before after end row″
+pub laid-onto : {a b : Parsed Forest} {row j k next row′ end row″ : ℕ} {ancestry : Ancestry} {before mid after : List ℕ} (l : Laid a row j ancestry before mid next row′) → Laid b row′ k ancestry mid after end row″
+    → Laid (onto (l .forest) b) row (j + k) ancestry before after end row″
 laid-onto l h = laid-after (l .forest) (l .counted) (l .took) (l .lie) h
 
 -- two readers one after another, where the first has read
-pub seq-meets : (r : Step) (item rest : Reader) (at row j next row′ k : ℕ) (before mid after : List ℕ) → Laid (item at row) row j before mid next row′
-    → Meets r (rest next row′) row′ k mid after → Meets r ((item ⨾ rest) at row) row (j + k) before after
-seq-meets (Fault n p) item rest at row j next row′ k before mid after l e =
+pub seq-meets : (r : Step) (item rest : Reader) (at row j next row′ k : ℕ) (ancestry : Ancestry) (before mid after : List ℕ) → Laid (item at row) row j ancestry before mid next row′
+    → Meets r (rest next row′) row′ k ancestry mid after → Meets r ((item ⨾ rest) at row) row (j + k) ancestry before after
+seq-meets (Fault n p) item rest at row j next row′ k ancestry before mid after l e =
     seq-read item rest at row next (l .forest) (l .read) ∙ rw (← l .took) (onto-fault (l .forest) _ n p e)
-seq-meets (Next end row″) item rest at row j next row′ k before mid after l h =
+seq-meets (Next end row″) item rest at row j next row′ k ancestry before mid after l h =
     rw (seq-read item rest at row next (l .forest) (l .read), ← l .took) (laid-onto l h)

@@ -7,7 +7,7 @@ use Rattle.format.specs.Outcome.{Outcome, Parsed, fault, done, _>>=_}
 use Rattle.format.specs.Limits.{limit}
 use Rattle.format.specs.Tokens as Tokens
 use Rattle.format.specs.Tokens.{Forest, alone, size, _⊕_, members}
-use Rattle.format.specs.Rows.{rows}
+use Rattle.format.specs.Rows.{Ancestry, rows}
 use Rattle.format.specs.Answers.{kindOf}
 use Rattle.rows.specs.Overlay.{lay}
 use Rattle.tokens.specs.declared.entry.Entry.{Entry}
@@ -57,21 +57,21 @@ ended (Refused n p) t = fault n p
 -- ---- what was read
 
 -- tokens of k members were read and now lie in the words from `row` on, as far as these reach
-pub record Laid (o : Parsed Forest) (row k : ℕ) (before after : List ℕ) (next row′ : ℕ) : Type 0 where
+pub record Laid (o : Parsed Forest) (row k : ℕ) (ancestry : Ancestry) (before after : List ℕ) (next row′ : ℕ) : Type 0 where
   pub forest : Forest
   pub read : o ≡ done (forest, next)
   pub counted : members forest ≡ k
   pub took : row′ ≡ row + size forest
-  pub lie : after ≡ lay before row (rows row forest)
+  pub lie : after ≡ lay before row (rows row ancestry forest)
 
 -- a forest, and then what remains to be read
 unfoldable pub onto : Forest → Parsed Forest → Parsed Forest
 onto f o = o >>= (λ r. done (f ⊕ r .0, r .1))
 
 -- the answer to a reader that gives k members: its refusal, whatever the words then hold; or what was read
-abbrev pub Meets : Step → Parsed Forest → ℕ → ℕ → List ℕ → List ℕ → Type 0
-Meets (Fault n p) o row k before after = o ≡ fault n p
-Meets (Next next row′) o row k before after = Laid o row k before after next row′
+abbrev pub Meets : Step → Parsed Forest → ℕ → ℕ → Ancestry → List ℕ → List ℕ → Type 0
+Meets (Fault n p) o row k ancestry before after = o ≡ fault n p
+Meets (Next next row′) o row k ancestry before after = Laid o row k ancestry before after next row′
 
 -- ---- places and rows
 

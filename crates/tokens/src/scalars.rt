@@ -6,6 +6,7 @@ use content::is_content;
 use format::answers::Kind;
 use format::limits::LIMIT;
 use format::marks::Mark;
+use rows::Ancestry;
 use scan::integers::Parsed;
 use scan::integers::integer;
 use scan::integers::number;
@@ -18,6 +19,7 @@ ghost use Rattle.format.specs.Tokens.{alone, uncounted, members};
 ghost use Rattle.format.specs.Answers.{kindOf};
 ghost use Rattle.format.specs.Content.{payloadEnd};
 ghost use Rattle.format.specs.Scalars.{scalar as scalarAt, unmarked as unmarkedAt, text as textAt, key as keyAt};
+ghost use Rattle.rows.specs.Row.{ancestryOf};
 ghost use Rattle.tokens.specs.Answers.{placed, PlaceWithin, ended, Meets, Here, Within};
 
 // The place after a payload; or a refusal's number and place.
@@ -55,9 +57,10 @@ fn finish(
     start: usize,
     n: usize,
     end: Place,
+    ancestry: Ancestry,
 ) -> Step
     requires { ⌜ (row ≤ at) × (at ≤ limit) × (start ≤ limit) × (n ≤ limit) ⌝ }
-    ensures meets { λ r. ⌜ Meets r (ended end (uncounted (kindOf kind) mark at start n)) row (members (alone (uncounted (kindOf kind) mark at start n))) (now (rows .entry)) (now (rows .exit)) ⌝ }
+    ensures meets { λ r. ⌜ Meets r (ended end (uncounted (kindOf kind) mark at start n)) row (members (alone (uncounted (kindOf kind) mark at start n))) (ancestryOf ancestry) (now (rows .entry)) (now (rows .exit)) ⌝ }
     ensures bounds { λ r. ⌜ ((low high rowsLent : ℕ) → PlaceWithin end low high → row < low → row < rowsLent → Within r low high rowsLent) ⌝ }
 {
     match end {
@@ -77,6 +80,7 @@ fn finish(
                     order: 0,
                 },
                 link,
+                ancestry,
             );
             Step::Next(next, link)
         }
@@ -92,9 +96,10 @@ pub fn scalar(
     start: usize,
     at: usize,
     row: usize,
+    ancestry: Ancestry,
 ) -> Step
     requires { ⌜ Here (now message) lent at row × (at ≤ start) × (start ≤ length (now message)) × (row < start + width mark) ⌝ }
-    ensures meets { λ r. ⌜ Meets r (scalarAt (now (message .entry)) lent mark start at row) row 1 (now (rows .entry)) (now (rows .exit)) ⌝ }
+    ensures meets { λ r. ⌜ Meets r (scalarAt (now (message .entry)) lent mark start at row) row 1 (ancestryOf ancestry) (now (rows .entry)) (now (rows .exit)) ⌝ }
     ensures bounds { λ r. ⌜ Within r start (length (now (message .entry))) lent ⌝ }
 {
     if lent <= row {
@@ -102,7 +107,17 @@ pub fn scalar(
     }
     let width = Mark(mark).width();
     let end = payload_end(message, mark, start, width);
-    finish(rows, row, Kind::Scalar, mark, at, start, width, end)
+    finish(
+        rows,
+        row,
+        Kind::Scalar,
+        mark,
+        at,
+        start,
+        width,
+        end,
+        ancestry,
+    )
 }
 
 // A value without mark, whose type's mark is given.
@@ -113,16 +128,17 @@ pub fn unmarked(
     mark: u8,
     at: usize,
     row: usize,
+    ancestry: Ancestry,
 ) -> Step
     requires { ⌜ Here (now message) lent at row × (row < at + width mark) ⌝ }
-    ensures meets { λ r. ⌜ Meets r (unmarkedAt (now (message .entry)) lent mark at row) row 1 (now (rows .entry)) (now (rows .exit)) ⌝ }
+    ensures meets { λ r. ⌜ Meets r (unmarkedAt (now (message .entry)) lent mark at row) row 1 (ancestryOf ancestry) (now (rows .entry)) (now (rows .exit)) ⌝ }
     ensures bounds { λ r. ⌜ Within r at (length (now (message .entry))) lent ⌝ }
 {
     let end = message.len();
     if end <= at {
         return Step::Fault(2, end);
     }
-    scalar(message, rows, lent, mark, at, at, row)
+    scalar(message, rows, lent, mark, at, at, row, ancestry)
 }
 
 // `S` or `H`: an integer record, and so many bytes.
@@ -134,9 +150,10 @@ pub fn text(
     mark: u8,
     at: usize,
     row: usize,
+    ancestry: Ancestry,
 ) -> Step
     requires { ⌜ Here (now message) lent at row × (at < length (now message)) ⌝ }
-    ensures meets { λ r. ⌜ Meets r (textAt (now (message .entry)) lent (kindOf kind) mark at row) row (members (alone (uncounted (kindOf kind) mark at 0 0))) (now (rows .entry)) (now (rows .exit)) ⌝ }
+    ensures meets { λ r. ⌜ Meets r (textAt (now (message .entry)) lent (kindOf kind) mark at row) row (members (alone (uncounted (kindOf kind) mark at 0 0))) (ancestryOf ancestry) (now (rows .entry)) (now (rows .exit)) ⌝ }
     ensures bounds { λ r. ⌜ Within r (at + 1) (length (now (message .entry))) lent ⌝ }
 {
     if lent <= row {
@@ -147,15 +164,22 @@ pub fn text(
         Parsed::Number(n, start) => {
             let size = n as usize;
             let end = payload_end(message, mark, start, size);
-            finish(rows, row, kind, mark, at, start, size, end)
+            finish(rows, row, kind, mark, at, start, size, end, ancestry)
         }
     }
 }
 
 // A key: `S` without its mark.
-pub fn key(message: &[u8], rows: &mut [u32], lent: usize, at: usize, row: usize) -> Step
+pub fn key(
+    message: &[u8],
+    rows: &mut [u32],
+    lent: usize,
+    at: usize,
+    row: usize,
+    ancestry: Ancestry,
+) -> Step
     requires { ⌜ Here (now message) lent at row ⌝ }
-    ensures meets { λ r. ⌜ Meets r (keyAt (now (message .entry)) lent at row) row 0 (now (rows .entry)) (now (rows .exit)) ⌝ }
+    ensures meets { λ r. ⌜ Meets r (keyAt (now (message .entry)) lent at row) row 0 (ancestryOf ancestry) (now (rows .entry)) (now (rows .exit)) ⌝ }
     ensures bounds { λ r. ⌜ Within r (at + 1) (length (now (message .entry))) lent ⌝ }
 {
     let end = message.len();
@@ -174,7 +198,17 @@ pub fn key(message: &[u8], rows: &mut [u32], lent: usize, at: usize, row: usize)
         Parsed::Number(n, start) => {
             let size = n as usize;
             let end = payload_end(message, Mark::TEXT, start, size);
-            finish(rows, row, Kind::Key, Mark::TEXT, at, start, size, end)
+            finish(
+                rows,
+                row,
+                Kind::Key,
+                Mark::TEXT,
+                at,
+                start,
+                size,
+                end,
+                ancestry,
+            )
         }
     }
 }

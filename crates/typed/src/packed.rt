@@ -4,6 +4,8 @@ use contents::packed::packed_contents;
 use format::answers::Kind;
 use format::limits::LIMIT;
 use format::marks::Mark;
+use rows::Ancestry;
+use rows::held_by;
 use shapes::counts::Shaped;
 use shapes::counts::shape;
 use tokens::Step;
@@ -16,24 +18,32 @@ ghost use Prim.Native.Nat.{ℕ, _+_, _≤_, _<_};
 ghost use lib.ListN.{length};
 ghost use Rattle.format.specs.Marks.{isType};
 ghost use Rattle.format.specs.Tokens.{Forest, none, node, size, members};
-ghost use Rattle.format.specs.Rows.{rows as rowsOf};
+ghost use Rattle.format.specs.Rows.{heldBy, rows as rowsOf};
 ghost use Rattle.format.specs.Containers.{packed as packedAt};
 ghost use Rattle.rows.specs.Overlay.{lay};
+ghost use Rattle.rows.specs.Row.{ancestryOf};
 ghost use Rattle.tokens.specs.Answers.{tokenOf, Meets, Here, Within};
 ghost use Rattle.typed.specs.Stored.{checked, StoredWithin};
 
 // The row of a packed array or table over what was read of its header, once its content is checked; `link` is the row after.
-pub fn store_row(rows: &mut [u32], row: usize, e: Entry, link: usize, content: Checked) -> Step
+pub fn store_row(
+    rows: &mut [u32],
+    row: usize,
+    e: Entry,
+    link: usize,
+    content: Checked,
+    ancestry: Ancestry,
+) -> Step
     requires { ⌜ StoredWithin e link ⌝ }
-    ensures meets { λ r. ⌜ ((before : List ℕ) (under : Forest) → link ≡ row + 1 + size under → now (rows .entry) ≡ lay before (row + 1) (rowsOf (row + 1) under)
-        → Meets r (checked content (node (tokenOf e) under none, e .payload + e .extent)) row (members (node (tokenOf e) under none)) before (now (rows .exit))) ⌝ }
+    ensures meets { λ r. ⌜ ((before : List ℕ) (under : Forest) → link ≡ row + 1 + size under → now (rows .entry) ≡ lay before (row + 1) (rowsOf (row + 1) (heldBy row (ancestryOf ancestry)) under)
+        → Meets r (checked content (node (tokenOf e) under none, e .payload + e .extent)) row (members (node (tokenOf e) under none)) (ancestryOf ancestry) before (now (rows .exit))) ⌝ }
     ensures bounds { λ r. ⌜ ((low high lent : ℕ) → low ≤ e .payload → e .payload + e .extent ≤ high → link ≤ lent → link ≤ e .payload → Within r low high lent) ⌝ }
 {
     match content {
         Checked::Wrong(place) => Step::Fault(4, place),
         Checked::Right => {
             let end = e.payload + e.extent;
-            put(rows, row, e, link);
+            put(rows, row, e, link, ancestry);
             Step::Next(end, link)
         }
     }
@@ -48,13 +58,15 @@ pub fn packed(
     from: usize,
     at: usize,
     row: usize,
+    ancestry: Ancestry,
 ) -> Step
-    requires { ⌜ Here (now message) lent at row × (row < lent) × (at < from) × (from ≤ length (now message)) × (isType mark ≡ true) ⌝ }
-    ensures meets { λ r. ⌜ Meets r (packedAt (now (message .entry)) lent mark from at row) row 1 (now (rows .entry)) (now (rows .exit)) ⌝ }
+    requires { ⌜ Here (now message) lent at row × (row < lent) × (at < from) × (from ≤ length (now message)) × (isType mark ≡ true) × (ancestry .depth ≤ at) ⌝ }
+    ensures meets { λ r. ⌜ Meets r (packedAt (now (message .entry)) lent mark from at row) row 1 (ancestryOf ancestry) (now (rows .entry)) (now (rows .exit)) ⌝ }
     ensures bounds { λ r. ⌜ Within r (at + 1) (length (now (message .entry))) lent ⌝ }
 {
     let below = row + 1;
-    match shape(message, rows, lent, true, from, below) {
+    let children = held_by(row, ancestry);
+    match shape(message, rows, lent, true, from, below, children) {
         Shaped::Refused(n, p) => Step::Fault(n, p),
         Shaped::Shape {
             next,
@@ -80,7 +92,7 @@ pub fn packed(
                 count: many,
                 order: order,
             };
-            store_row(rows, row, e, link, content)
+            store_row(rows, row, e, link, content, ancestry)
         }
     }
 }

@@ -7,6 +7,8 @@ use format::limits::RECORD_LIMIT;
 use format::marks::Mark;
 use format::marks::opening_mark;
 use kinds::Kinds;
+use rows::Ancestry;
+use rows::held_by;
 use schemas::groups::table_schema;
 use shapes::counts::Shaped;
 use shapes::counts::shape;
@@ -17,6 +19,8 @@ ghost use Prim.Native.Nat.{ℕ, _+_, _≤_, _<_};
 ghost use lib.ListN.{length};
 ghost use Rattle.format.specs.Marks.{openingOf};
 ghost use Rattle.format.specs.Containers.{table as tableAt};
+ghost use Rattle.format.specs.Rows.{heldBy};
+ghost use Rattle.rows.specs.Row.{ancestryOf};
 ghost use Rattle.tokens.specs.Answers.{Meets, Here, Within};
 ghost use Rattle.typed.specs.Tables.{HeaderRead, HeaderWithin};
 
@@ -32,10 +36,11 @@ fn table_payload(
     order: u32,
     at: usize,
     row: usize,
+    ancestry: Ancestry,
 ) -> Step
     requires { ⌜ HeaderWithin (now message) wide start link many at row ⌝ }
-    ensures meets { λ r. ⌜ ((lent : ℕ) (before : List ℕ) → HeaderRead (now (message .entry)) lent at row before (now (rows .entry)) wide start link many order
-        → Meets r (tableAt (now (message .entry)) lent (openingOf brace) at row) row 1 before (now (rows .exit))) ⌝ }
+    ensures meets { λ r. ⌜ ((lent : ℕ) (before : List ℕ) → HeaderRead (now (message .entry)) lent at row (heldBy row (ancestryOf ancestry)) before (now (rows .entry)) wide start link many order
+        → Meets r (tableAt (now (message .entry)) lent (openingOf brace) at row) row 1 (ancestryOf ancestry) before (now (rows .exit))) ⌝ }
     ensures bounds { λ r. ⌜ ((lent : ℕ) → link ≤ lent → Within r (at + 1) (length (now (message .entry))) lent) ⌝ }
 {
     if (LIMIT as usize) < many {
@@ -60,7 +65,7 @@ fn table_payload(
         count: many,
         order: order,
     };
-    store_row(rows, row, e, link, content)
+    store_row(rows, row, e, link, content, ancestry)
 }
 
 // The table at `at`.
@@ -71,13 +76,15 @@ pub fn table(
     brace: bool,
     at: usize,
     row: usize,
+    ancestry: Ancestry,
 ) -> Step
-    requires { ⌜ Here (now message) lent at row × (at + 2 < length (now message)) × (row < lent) ⌝ }
-    ensures meets { λ r. ⌜ Meets r (tableAt (now (message .entry)) lent (openingOf brace) at row) row 1 (now (rows .entry)) (now (rows .exit)) ⌝ }
+    requires { ⌜ Here (now message) lent at row × (at + 2 < length (now message)) × (row < lent) × (ancestry .depth ≤ at) ⌝ }
+    ensures meets { λ r. ⌜ Meets r (tableAt (now (message .entry)) lent (openingOf brace) at row) row 1 (ancestryOf ancestry) (now (rows .entry)) (now (rows .exit)) ⌝ }
     ensures bounds { λ r. ⌜ Within r (at + 1) (length (now (message .entry))) lent ⌝ }
 {
     let below = row + 1;
-    match table_schema(message, rows, lent, at + 2, below) {
+    let children = held_by(row, ancestry);
+    match table_schema(message, rows, lent, at + 2, below, children) {
         Kinds::Fault(n, p) => Step::Fault(n, p),
         Kinds::Next(from, after, wide) => {
             let end = message.len();
@@ -87,14 +94,26 @@ pub fn table(
             if message[from] != Mark::COUNT {
                 return Step::Fault(3, from);
             }
-            match shape(message, rows, lent, false, from + 1, after) {
+            match shape(message, rows, lent, false, from + 1, after, children) {
                 Shaped::Refused(n, p) => Step::Fault(n, p),
                 Shaped::Shape {
                     next,
                     row: link,
                     many,
                     order,
-                } => table_payload(message, rows, brace, wide, next, link, many, order, at, row),
+                } => table_payload(
+                    message,
+                    rows,
+                    brace,
+                    wide,
+                    next,
+                    link,
+                    many,
+                    order,
+                    at,
+                    row,
+                    ancestry,
+                ),
             }
         }
     }

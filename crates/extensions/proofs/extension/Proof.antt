@@ -44,4 +44,4 @@ extension-spec =
     let w = rw e at (h .ensures .1) in
     let v = rw f at (p .ensures .1) in
     let q = rw (sym (p .ensures .0) ∙ ap placed f) at (k _ _ (c .before .before .before .before .before .before .before .before .before .before .before .before .if1 .left)) in
-    (rw q (laid-alone _ _ _ _ _ (c .before .before .put .ensures)), record { on = omega arith; inside = omega arith; rowLent = omega arith; rowByte = omega arith })))
+    (rw q (laid-alone _ _ _ _ _ _ (c .before .before .put .ensures)), record { on = omega arith; inside = omega arith; rowLent = omega arith; rowByte = omega arith })))

@@ -1,4 +1,4 @@
--- `load`: one test, and eight reads. Assumes nothing.
+-- `load`: one test, and ten reads. Assumes nothing.
 use mathlib.Core.Path.{refl}
 use native.Mathlib.Numerals.{unary-clauses}
 use native.Mathlib.Omega.{arith}
@@ -13,6 +13,12 @@ load-spec =
     tie.close
     (tie.spec
     (λ c. (λ h. absurd (omega arith), λ h. refl))
+    (λ c. search needs)
+    (λ c. search needs)
+    (λ c. search needs)
+    (λ c. search needs)
+    (λ c. search needs)
+    (λ c. search needs)
     (λ c. search needs)
     (λ c. search needs)
     (λ c. search needs)

@@ -20,6 +20,6 @@ close-spec =
     (λ c. search needs)
     (λ c.
     let e = c .before .before .before .before .before .before .before .list2 .given .1 in (
-      (λ o before h. laid-closed _ _ _ _ o _ _ _ _ before _ _ (rw e at h) (rw (← c .before .before .before .before .before .container-kind .ensures, ← c .before .before .before .before .opening-mark .ensures) (c .before .before .put .ensures))),
+      (λ o before h. laid-closed _ _ _ _ o _ _ _ _ _ before _ _ (rw e at h) (rw (← c .before .before .before .before .before .container-kind .ensures, ← c .before .before .before .before .opening-mark .ensures) (c .before .before .put .ensures))),
       λ high lent w k. let v = rw e at w in omega arith,
     )))

@@ -22,7 +22,7 @@ returns-2 c =
     let e = c .before .before .before .before .before .next .given .1 in
     let w = rw e at (c .before .before .before .before .before .before .before .before .before .key .ensures .1) in
     let v = c .before .before .unmarked in
-    (seq-meets (v .result) _ _ _ _ _ _ _ 1 _ _ _ (rw e at (c .before .before .before .before .before .before .before .before .before .key .ensures .0)) (v .ensures .0), within-from (v .result) _ _ _ _ (w .on) (v .ensures .1))
+    (seq-meets (v .result) _ _ _ _ _ _ _ 1 _ _ _ _ (rw e at (c .before .before .before .before .before .before .before .before .before .key .ensures .0)) (v .ensures .0), within-from (v .result) _ _ _ _ (w .on) (v .ensures .1))
 
 pub pair-spec : {M : Type 1} → statement M
 pair-spec =

@@ -4,23 +4,24 @@ use mathlib.Core.Path.{_≡_, refl, _∙_}
 use native.Mathlib.Omega.{arith}
 use borrow.Author.Needs.{needs}
 use lib.ListN.{length}
+use Rattle.rows.specs.Row.{ancestryOf}
 use Rattle.containers.specs.Lists.{pairOf}
 use Rattle.containers.proofs.Loops.{Going, Some, some-start, some-step, some-fault, some-end}
 use Rattle.containers.proofs.pairs.pairs.Statement.{statement}
 use Rattle.containers.proofs.pairs.pairs.Tie as tie
 
 abbrev Inv-loop : tie.InvT-loop
-Inv-loop message rows₀ lent mark n start first at₀ row₀ count₀ rows at row count =
+Inv-loop message rows₀ lent mark n start first ancestry at₀ row₀ count₀ rows at row count =
     Going message lent start at row count
     × (length rows ≡ length rows₀)
-    × Some n (pairOf message lent mark) start first rows₀ at row count rows
+    × Some n (pairOf message lent mark) start first (ancestryOf ancestry) rows₀ at row count rows
 
 abbrev μ-loop : tie.MeasureT-loop
-μ-loop message rows₀ lent mark n start first at₀ row₀ count₀ rows at row count = n - count
+μ-loop message rows₀ lent mark n start first ancestry at₀ row₀ count₀ rows at row count = n - count
 
 loop-holds : tie.Need-loop-holds Inv-loop μ-loop
 loop-holds c =
-    (omega arith, refl, some-start _ _ _ _ _)
+    (omega arith, refl, some-start _ _ _ _ _ _)
 
 pair-requires : tie.Need-pair-requires Inv-loop μ-loop
 pair-requires c κs =
@@ -29,7 +30,7 @@ pair-requires c κs =
 returns : tie.Need-returns Inv-loop μ-loop
 returns c =
     let i = c .before .before .before .before .before .before .before .before .loop .inv in
-    (some-fault _ _ _ _ _ (i .2) _ _ (c .before .before .before .before .before .before .before .loop-test .taken) (rw (c .before .number .given .1) at (c .before .before .before .before .before .pair .ensures .0)), tt)
+    (some-fault _ _ _ _ _ _ (i .2) _ _ (c .before .before .before .before .before .before .before .loop-test .taken) (rw (c .before .number .given .1) at (c .before .before .before .before .before .pair .ensures .0)), tt)
 
 loop-again : tie.Need-loop-again Inv-loop μ-loop
 loop-again c =
@@ -39,12 +40,12 @@ loop-again c =
     let w = rw e at (v .ensures .1) in (
       omega arith,
       v .kept .1 .0 ∙ i .1,
-      some-step _ _ _ _ _ (i .2) _ _ _ (c .before .before .before .before .before .before .before .loop-test .taken) (rw e at (v .ensures .0)),
+      some-step _ _ _ _ _ _ (i .2) _ _ _ (c .before .before .before .before .before .before .before .loop-test .taken) (rw e at (v .ensures .0)),
     )
 
 returns-2 : tie.Need-returns-2 Inv-loop μ-loop
 returns-2 c =
-    let i = c .before .loop .inv in (some-end _ _ _ _ _ (i .2) (c .loop-test .left), omega arith)
+    let i = c .before .loop .inv in (some-end _ _ _ _ _ _ (i .2) (c .loop-test .left), omega arith)
 
 pub pairs-spec : {M : Type 1} → statement M
 pairs-spec =

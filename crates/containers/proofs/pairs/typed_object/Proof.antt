@@ -12,7 +12,7 @@ use Rattle.containers.proofs.pairs.typed_object.Tie as tie
 
 pairs-requires : tie.Need-pairs-requires
 pairs-requires c κs =
-    let b = rw (c .before .before .n2 .given .1) at (c .before .before .before .before .integer .ensures .1) in (omega arith, b .0, c .before .before .before .before .before .before .before .pre .4)
+    let b = rw (c .before .before .n2 .given .1) at (c .before .before .before .before .integer .ensures .1) in (omega arith, b .0, c .before .before .before .before .before .before .before .before .pre .4)
 
 close-requires : tie.Need-close-requires
 close-requires c κs =
@@ -30,8 +30,8 @@ returns-2 c =
     let b = rw e at (c .before .before .before .before .before .before .before .before .before .before .before .integer .ensures .1) in
     let l = c .before .before .before .before .before .before .pairs in
     let z = c .before .before .close in (
-      rw (counted-closed _ _ _ _ _ _ _ _ _ (sym (c .before .before .before .before .before .before .before .before .before .before .before .integer .ensures .0) ∙ ap parsed e)) (z .ensures .0 _ _ (l .ensures .0)),
-      within-from (z .result) _ _ _ _ (omega arith) (z .ensures .1 _ _ (rw (sub-zero (length (c .before .before .before .before .before .before .before .before .before .before .before .before .before .before .args .message .now))) (l .ensures .1)) (omega arith)),
+      rw (counted-closed _ _ _ _ _ _ _ _ _ (sym (c .before .before .before .before .before .before .before .before .before .before .before .integer .ensures .0) ∙ ap parsed e)) (z .ensures .0 _ _ (rw (c .before .before .before .before .before .before .before .before .before .before .before .before .held-by .ensures .0) at (l .ensures .0))),
+      within-from (z .result) _ _ _ _ (omega (arith, c .before .before .before .before .before .before .before .before .before .before .before .before .before .before .before .pre .2)) (z .ensures .1 _ _ (rw (sub-zero (length (c .before .before .before .before .before .before .before .before .before .before .before .before .before .before .before .args .message .now))) (l .ensures .1)) (omega arith)),
     )
 
 pub typed-object-spec : {M : Type 1} → statement M
@@ -39,6 +39,7 @@ typed-object-spec =
     tie.close
     (tie.spec
     (λ c. omega arith)
+    (λ c κs. search needs)
     (λ c κs. search needs)
     (λ c. search needs)
     (λ c. search needs)

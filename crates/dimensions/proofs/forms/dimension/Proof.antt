@@ -32,6 +32,6 @@ dimension-spec =
     let e = c .before .before .before .before .before .n .given .1 in
     let w = c .before .before .before .before .before .before .before .before .width .ensures in
     let b = rw e at (i .ensures .1) in (
-      rw (dimension-there _ _ _ _ _ _ _ _ (c .before .before .before .before .before .before .before .before .before .if1 .left) (sym (i .ensures .0) ∙ ap parsed e), ← w) (laid-one _ _ _ _ _ (b .0) (c .before .before .put .ensures)),
+      rw (dimension-there _ _ _ _ _ _ _ _ (c .before .before .before .before .before .before .before .before .before .if1 .left) (sym (i .ensures .0) ∙ ap parsed e), ← w) (laid-one _ _ _ _ _ _ (b .0) (c .before .before .put .ensures)),
       omega arith,
     )))

@@ -14,7 +14,7 @@ member-start-spec =
     (λ c. search needs)
     (λ c.
     let v = c .before .before .value-start in
-    (member-plain _ _ _ _ _ (c .before .before .before .before .before .before .before .args .brace) (not-true (c .before .before .before .before .before .before .before .args .brace) (c .before .before .before .before .if1 .taken)) (v .result) _ _ (v .ensures .0), v .ensures .1))
+    (member-plain _ _ _ _ _ (c .before .before .before .before .before .before .before .args .brace) (not-true (c .before .before .before .before .before .before .before .args .brace) (c .before .before .before .before .if1 .taken)) (v .result) _ _ _ (v .ensures .0), v .ensures .1))
     (λ c κs. search needs)
     (λ c. search needs)
     (λ c. search needs)
@@ -36,6 +36,6 @@ member-start-spec =
     let l = rw e at (k .ensures .0) in
     let s = c .before .before .before .before .skip .ensures in
     let v = c .before .before .value-start2 in (
-      member-keyed _ _ _ _ _ (c .before .before .before .before .before .before .before .before .before .before .before .before .before .before .before .args .brace) (not-false (c .before .before .before .before .before .before .before .before .before .before .before .before .before .before .before .args .brace) (c .before .before .before .before .before .before .before .before .before .before .before .before .if1 .left)) (v .result) _ _ _ _ _ l (rw (s .0) at (v .ensures .0)),
+      member-keyed _ _ _ _ _ (c .before .before .before .before .before .before .before .before .before .before .before .before .before .before .before .args .brace) (not-false (c .before .before .before .before .before .before .before .before .before .before .before .before .before .before .before .args .brace) (c .before .before .before .before .before .before .before .before .before .before .before .before .if1 .left)) (v .result) _ _ _ _ _ _ l (rw (s .0) at (v .ensures .0)),
       within-item (v .result) _ _ _ _ (omega arith) (v .ensures .1),
     )))

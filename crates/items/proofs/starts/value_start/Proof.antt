@@ -39,7 +39,7 @@ value-start-spec =
     let s = c .before .before .before .scalar in
     let e = c .whole .ensures in
     let b = (sym (c .before .before .before .before .before .before .before .class-of .ensures) ∙ ap classOf (c .before .before .before .before .before .enum-told .given .1)) in (
-      rw e (whole-meets (s .result) _ _ _ _ _ (λ nested. value-begins _ _ _ nested _ _ _ (c .before .before .before .before .before .before .before .before .before .if1 .left) b) (s .ensures .0)),
+      rw e (whole-meets (s .result) _ _ _ _ _ _ (λ nested. value-begins _ _ _ nested _ _ _ (c .before .before .before .before .before .before .before .before .before .if1 .left) b) (s .ensures .0)),
       rw e (whole-within (s .result) _ _ _ (s .ensures .1)),
     ))
     (λ c. search needs)
@@ -47,7 +47,7 @@ value-start-spec =
     let s = c .before .before .before .text in
     let e = c .whole2 .ensures in
     let b = (sym (c .before .before .before .before .before .before .before .class-of .ensures) ∙ ap classOf (c .before .before .before .before .before .enum-told2 .given .1)) in (
-      rw e (whole-meets (s .result) _ _ _ _ _ (λ nested. value-begins _ _ _ nested _ _ _ (c .before .before .before .before .before .before .before .before .before .if1 .left) b) (s .ensures .0)),
+      rw e (whole-meets (s .result) _ _ _ _ _ _ (λ nested. value-begins _ _ _ nested _ _ _ (c .before .before .before .before .before .before .before .before .before .if1 .left) b) (s .ensures .0)),
       rw e (whole-within (s .result) _ _ _ (s .ensures .1)),
     ))
     (λ c. search needs)
@@ -55,17 +55,17 @@ value-start-spec =
     let s = c .before .before .before .text2 in
     let e = c .whole3 .ensures in
     let b = (sym (c .before .before .before .before .before .before .before .class-of .ensures) ∙ ap classOf (c .before .before .before .before .before .enum-told3 .given .1)) in (
-      rw e (whole-meets (s .result) _ _ _ _ _ (λ nested. value-begins _ _ _ nested _ _ _ (c .before .before .before .before .before .before .before .before .before .if1 .left) b) (s .ensures .0)),
+      rw e (whole-meets (s .result) _ _ _ _ _ _ (λ nested. value-begins _ _ _ nested _ _ _ (c .before .before .before .before .before .before .before .before .before .if1 .left) b) (s .ensures .0)),
       rw e (whole-within (s .result) _ _ _ (s .ensures .1)),
     ))
-    (λ c. (opened-here _ _ _ _ _ (λ nested. value-begins _ _ _ nested _ _ _ (c .before .before .before .before .if1 .left) (sym (c .before .before .class-of .ensures) ∙ ap classOf (c .enum-told4 .given .1))), record { on = omega arith; inside = omega arith; rowLent = omega arith; rowByte = omega arith }))
-    (λ c. (opened-here _ _ _ _ _ (λ nested. value-begins _ _ _ nested _ _ _ (c .before .before .before .before .if1 .left) (sym (c .before .before .class-of .ensures) ∙ ap classOf (c .enum-told5 .given .1))), record { on = omega arith; inside = omega arith; rowLent = omega arith; rowByte = omega arith }))
+    (λ c. (opened-here _ _ _ _ _ _ (λ nested. value-begins _ _ _ nested _ _ _ (c .before .before .before .before .if1 .left) (sym (c .before .before .class-of .ensures) ∙ ap classOf (c .enum-told4 .given .1))), record { on = omega arith; inside = omega arith; rowLent = omega arith; rowByte = omega arith }))
+    (λ c. (opened-here _ _ _ _ _ _ (λ nested. value-begins _ _ _ nested _ _ _ (c .before .before .before .before .if1 .left) (sym (c .before .before .class-of .ensures) ∙ ap classOf (c .enum-told5 .given .1))), record { on = omega arith; inside = omega arith; rowLent = omega arith; rowByte = omega arith }))
     (λ c. search needs)
     (λ c.
     let s = c .before .before .before .extension in
     let e = c .whole4 .ensures in
     let b = (sym (c .before .before .before .before .before .before .before .class-of .ensures) ∙ ap classOf (c .before .before .before .before .before .enum-told6 .given .1)) in (
-      rw e (whole-meets (s .result) _ _ _ _ _ (λ nested. value-begins _ _ _ nested _ _ _ (c .before .before .before .before .before .before .before .before .before .if1 .left) b) (s .ensures .0)),
+      rw e (whole-meets (s .result) _ _ _ _ _ _ (λ nested. value-begins _ _ _ nested _ _ _ (c .before .before .before .before .before .before .before .before .before .if1 .left) b) (s .ensures .0)),
       rw e (whole-within (s .result) _ _ _ (s .ensures .1)),
     ))
     (λ c. ((λ nested. value-begins _ _ _ nested _ _ _ (c .before .before .before .before .if1 .left) (sym (c .before .before .class-of .ensures) ∙ ap classOf (c .enum-told7 .given .1))), tt)))

@@ -15,6 +15,6 @@ leaf-spec =
     (λ c. search needs)
     (λ c.
     let w = c .before .before .before .before .offset-after .ensures in (
-      read-leaf _ _ _ _ _ _ _ _ _ w (c .before .before .put .ensures),
+      read-leaf _ _ _ _ _ _ _ _ _ _ w (c .before .before .put .ensures),
       λ low high lent h k l n. omega arith,
     )))

@@ -10,13 +10,13 @@ pub array-start-spec : {M : Type 1} → statement M
 array-start-spec =
     tie.close
     (tie.spec
-    (λ c. ((λ offset words h. nested-deep _ _ _ _ _ _ (c .if1 .taken)), λ offset. tt))
-    (λ c. ((λ offset words h. array-no-row _ _ _ _ _ (omega arith) (c .if2 .taken)), λ offset. tt))
+    (λ c. ((λ offset ancestry words h. nested-deep _ _ _ _ _ _ (c .if1 .taken)), λ offset. tt))
+    (λ c. ((λ offset ancestry words h. array-no-row _ _ _ _ _ (omega arith) (c .if2 .taken)), λ offset. tt))
     (λ c. search needs)
-    (λ c. ((λ offset words h. array-early _ _ _ _ _ (omega arith) (c .before .if2 .left) (c .if3 .taken)), λ offset. tt))
+    (λ c. ((λ offset ancestry words h. array-early _ _ _ _ _ (omega arith) (c .before .if2 .left) (c .if3 .taken)), λ offset. tt))
     (λ c. search needs)
-    (λ c. ((λ offset words h. array-typed _ _ _ _ _ (omega arith) (c .before .before .before .if2 .left) (c .before .before .if3 .left) (c .if4 .taken)), λ offset. tt))
+    (λ c. ((λ offset ancestry words h. array-typed _ _ _ _ _ (omega arith) (c .before .before .before .if2 .left) (c .before .before .if3 .left) (c .if4 .taken)), λ offset. tt))
     (λ c. (
-      (λ offset words h. sofar-start _ _ _ _ _ h (array-opens _ _ _ _ _ (omega arith) (c .before .before .before .if2 .left) (c .before .before .if3 .left) (c .if4 .left))),
+      (λ offset ancestry words h. sofar-start _ _ _ _ _ _ h (array-opens _ _ _ _ _ (omega arith) (c .before .before .before .if2 .left) (c .before .before .if3 .left) (c .if4 .left))),
       λ offset. omega arith,
     )))

@@ -27,6 +27,6 @@ field-start-spec =
     let r = c .before .before .kind-start in
     let b = rw e at (k .ensures .1) in
     let h : a .at ≤ v .0 = omega arith in (
-      start-key (r .result) (a .message .now) (a .lent) (a .levels) (a .at) (a .row) (a .offset) _ _ (a .rows .now) _ _ (omega arith) (rw e at (k .ensures .0)) (r .ensures .0),
+      start-key (r .result) (a .message .now) (a .lent) (a .levels) (a .at) (a .row) (a .offset) _ _ _ (a .rows .now) _ _ (omega arith) (rw e at (k .ensures .0)) (r .ensures .0),
       start-from (r .result) (v .0) (a .at) (length (a .message .now)) (a .lent) (a .levels) (a .offset) h (r .ensures .1),
     )))

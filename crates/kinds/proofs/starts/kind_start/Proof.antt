@@ -36,11 +36,11 @@ kind-start-spec =
     (λ c.
     let a = c .before .before .before .before .before .before .before .before .args in
     let e = rw (c .before .enum-told3 .given .1) at (c .before .before .before .class-of .ensures (a .message .now) (a .lent) (nested (a .message .now) (a .lent) (a .levels)) (a .at) (a .row) (c .before .before .before .before .before .if1 .left) refl) in
-    (rw e (c .array-start .ensures .0 _ _ (omega arith)), c .array-start .ensures .1 _))
+    (rw e (c .array-start .ensures .0 _ _ _ (omega arith)), c .array-start .ensures .1 _))
     (λ c.
     let a = c .before .before .before .before .before .before .before .before .args in
     let e = rw (c .before .enum-told4 .given .1) at (c .before .before .before .class-of .ensures (a .message .now) (a .lent) (nested (a .message .now) (a .lent) (a .levels)) (a .at) (a .row) (c .before .before .before .before .before .if1 .left) refl) in
-    (rw e (c .record-start .ensures .0 _ _ (omega arith)), c .record-start .ensures .1 _))
+    (rw e (c .record-start .ensures .0 _ _ _ (omega arith)), c .record-start .ensures .1 _))
     (λ c.
     let a = c .before .before .before .before .before .before .before .before .args in
     let e = rw (c .before .number .given .1) at (c .before .before .before .class-of .ensures (a .message .now) (a .lent) (nested (a .message .now) (a .lent) (a .levels)) (a .at) (a .row) (c .before .before .before .before .before .if1 .left) refl) in

@@ -9,9 +9,9 @@ pub record-start-spec : {M : Type 1} → statement M
 record-start-spec =
     tie.close
     (tie.spec
-    (λ c. ((λ offset words h. nested-deep _ _ _ _ _ _ (c .if1 .taken)), λ offset. tt))
-    (λ c. ((λ offset words h. record-no-row _ _ _ _ _ (omega arith) (c .if2 .taken)), λ offset. tt))
+    (λ c. ((λ offset ancestry words h. nested-deep _ _ _ _ _ _ (c .if1 .taken)), λ offset. tt))
+    (λ c. ((λ offset ancestry words h. record-no-row _ _ _ _ _ (omega arith) (c .if2 .taken)), λ offset. tt))
     (λ c. (
-      (λ offset words h. sofar-start _ _ _ _ _ h (record-opens _ _ _ _ _ (omega arith) (c .if2 .left))),
+      (λ offset ancestry words h. sofar-start _ _ _ _ _ _ h (record-opens _ _ _ _ _ (omega arith) (c .if2 .left))),
       λ offset. omega arith,
     )))

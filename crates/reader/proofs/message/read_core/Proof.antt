@@ -19,7 +19,7 @@ skip-requires c κs =
 
 member-requires : tie.Need-member-requires
 member-requires c κs =
-    let s = c .before .skip .ensures .1 in omega arith
+    let s = c .before .skip .ensures .1 in (omega arith, omega arith)
 
 enum-known-n : tie.Need-enum-known-n
 enum-known-n c =

@@ -3,18 +3,19 @@ use Prim.Native.Nat.{_-_}
 use native.Mathlib.Omega.{arith}
 use borrow.Author.Needs.{needs}
 use Rattle.format.specs.Marks.{bracket}
+use Rattle.rows.specs.Row.{ancestryOf}
 use Rattle.runs.proofs.MemberLaws.{Running, running-start, running-turn, value-passed, scalar-stands}
 use Rattle.runs.proofs.members.alike.Statement.{statement}
 use Rattle.runs.proofs.members.alike.Tie as tie
 
 abbrev Inv-loop : tie.InvT-loop
-Inv-loop message rows₀ lent most mark n start first at₀ row₀ count₀ rows at row count = Running message lent bracket most start first rows₀ at row count rows
+Inv-loop message rows₀ lent most mark n start first ancestry at₀ row₀ count₀ rows at row count = Running message lent bracket most start first (ancestryOf ancestry) rows₀ at row count rows
 
 abbrev μ-loop : tie.MeasureT-loop
-μ-loop message rows₀ lent most mark n start first at₀ row₀ count₀ rows at row count = most - count
+μ-loop message rows₀ lent most mark n start first ancestry at₀ row₀ count₀ rows at row count = most - count
 
 loop-holds : tie.Need-loop-holds Inv-loop μ-loop
-loop-holds c = running-start _ _ _ _ _ _ _ (c .before .before .pre .0)
+loop-holds c = running-start _ _ _ _ _ _ _ _ (c .before .before .pre .0)
 
 put-alone-requires : tie.Need-put-alone-requires Inv-loop μ-loop
 put-alone-requires c κs = let s = c .before .before .before .alike-end .ensures (omega arith) in omega arith
@@ -23,8 +24,8 @@ loop-again : tie.Need-loop-again Inv-loop μ-loop
 loop-again c =
     let s = c .before .before .before .before .before .before .alike-end .ensures (omega arith) in
     let p = c .before .before .put-alone in
-    running-turn _ _ _ _ _ _ _ (c .before .before .before .before .before .before .before .before .before .loop .inv) (omega arith) (omega arith) (omega arith) (omega arith) (omega arith) (p .kept .0)
-    (value-passed _ _ _ _ _ _ _ _ (scalar-stands _ _ _ s) (omega arith) (p .ensures))
+    running-turn _ _ _ _ _ _ _ _ (c .before .before .before .before .before .before .before .before .before .loop .inv) (omega arith) (omega arith) (omega arith) (omega arith) (omega arith) (p .kept .0)
+    (value-passed _ _ _ _ _ _ _ _ _ (scalar-stands _ _ _ s) (omega arith) (p .ensures))
 
 pub alike-spec : {M : Type 1} → statement M
 alike-spec =

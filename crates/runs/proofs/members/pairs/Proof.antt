@@ -4,18 +4,19 @@ use mathlib.Core.Path.{_∙_}
 use native.Mathlib.Omega.{arith}
 use borrow.Author.Needs.{needs}
 use Rattle.format.specs.Marks.{brace}
+use Rattle.rows.specs.Row.{ancestryOf}
 use Rattle.runs.proofs.MemberLaws.{Running, running-start, running-turn, pair-passed, value-stands, value-starts, value-inside}
 use Rattle.runs.proofs.members.pairs.Statement.{statement}
 use Rattle.runs.proofs.members.pairs.Tie as tie
 
 abbrev Inv-loop : tie.InvT-loop
-Inv-loop message rows₀ lent most start first at₀ row₀ count₀ rows at row count = Running message lent brace most start first rows₀ at row count rows
+Inv-loop message rows₀ lent most start first ancestry at₀ row₀ count₀ rows at row count = Running message lent brace most start first (ancestryOf ancestry) rows₀ at row count rows
 
 abbrev μ-loop : tie.MeasureT-loop
-μ-loop message rows₀ lent most start first at₀ row₀ count₀ rows at row count = most - count
+μ-loop message rows₀ lent most start first ancestry at₀ row₀ count₀ rows at row count = most - count
 
 loop-holds : tie.Need-loop-holds Inv-loop μ-loop
-loop-holds c = running-start _ _ _ _ _ _ _ (c .before .before .pre)
+loop-holds c = running-start _ _ _ _ _ _ _ _ (c .before .before .pre)
 
 returns : tie.Need-returns Inv-loop μ-loop
 returns c = let i = c .before .before .loop .inv in (i .passed, i .ends)
@@ -52,8 +53,8 @@ loop-again c =
     let s = value-inside _ _ _ v in
     let p = c .before .before .before .before .before .before .before .put-alone in
     let q = c .before .before .put-value in
-    running-turn _ _ _ _ _ _ _ (c .before .before .before .before .before .before .before .before .before .before .before .before .before .before .before .loop .inv) (omega arith) (omega arith) (omega arith) (omega arith) (omega arith) (q .kept .0 ∙ p .kept .0)
-    (pair-passed _ _ _ _ _ _ _ _ _ _ k (value-stands _ _ _ v) (omega arith) (p .ensures) (q .ensures))
+    running-turn _ _ _ _ _ _ _ _ (c .before .before .before .before .before .before .before .before .before .before .before .before .before .before .before .loop .inv) (omega arith) (omega arith) (omega arith) (omega arith) (omega arith) (q .kept .0 ∙ p .kept .0)
+    (pair-passed _ _ _ _ _ _ _ _ _ _ _ k (value-stands _ _ _ v) (omega arith) (p .ensures) (q .ensures))
 
 returns-4 : tie.Need-returns-4 Inv-loop μ-loop
 returns-4 c = let i = c .before .loop .inv in (i .passed, i .ends)

@@ -3,21 +3,22 @@ use Prim.Native.Nat.{_-_}
 use native.Mathlib.Omega.{arith}
 use borrow.Author.Needs.{needs}
 use Rattle.format.specs.Marks.{bracket}
+use Rattle.rows.specs.Row.{ancestryOf}
 use Rattle.runs.proofs.MemberLaws.{Running, running-start, running-turn, value-passed, scalar-stands}
 use Rattle.runs.proofs.members.scalars.Statement.{statement}
 use Rattle.runs.proofs.members.scalars.Tie as tie
 
 abbrev Inv-loop : tie.InvT-loop
-Inv-loop message rows₀ lent most start first sizes at₀ row₀ count₀ rows at row count = Running message lent bracket most start first rows₀ at row count rows
+Inv-loop message rows₀ lent most start first ancestry sizes at₀ row₀ count₀ rows at row count = Running message lent bracket most start first (ancestryOf ancestry) rows₀ at row count rows
 
 abbrev μ-loop : tie.MeasureT-loop
-μ-loop message rows₀ lent most start first sizes at₀ row₀ count₀ rows at row count = most - count
+μ-loop message rows₀ lent most start first ancestry sizes at₀ row₀ count₀ rows at row count = most - count
 
 returns : tie.Need-returns Inv-loop μ-loop
-returns c = let i = running-start _ _ bracket (c .before .before .before .before .before .args .most) _ _ _ (c .before .before .before .before .before .pre) in (i .passed, i .ends)
+returns c = let i = running-start _ _ bracket (c .before .before .before .before .before .args .most) _ _ _ _ (c .before .before .before .before .before .pre) in (i .passed, i .ends)
 
 loop-holds : tie.Need-loop-holds Inv-loop μ-loop
-loop-holds c = running-start _ _ _ _ _ _ _ (c .before .before .before .before .before .before .pre)
+loop-holds c = running-start _ _ _ _ _ _ _ _ (c .before .before .before .before .before .before .pre)
 
 returns-2 : tie.Need-returns-2 Inv-loop μ-loop
 returns-2 c = let i = c .before .before .loop .inv in (i .passed, i .ends)
@@ -38,8 +39,8 @@ loop-again : tie.Need-loop-again Inv-loop μ-loop
 loop-again c =
     let s = c .before .before .before .before .before .before .scalar-end .ensures (omega arith) in
     let p = c .before .before .put-alone in
-    running-turn _ _ _ _ _ _ _ (c .before .before .before .before .before .before .before .before .before .before .loop .inv) (omega arith) (omega arith) (omega arith) (omega arith) (omega arith) (p .kept .0)
-    (value-passed _ _ _ _ _ _ _ _ (scalar-stands _ _ _ s) (omega arith) (p .ensures))
+    running-turn _ _ _ _ _ _ _ _ (c .before .before .before .before .before .before .before .before .before .before .loop .inv) (omega arith) (omega arith) (omega arith) (omega arith) (omega arith) (p .kept .0)
+    (value-passed _ _ _ _ _ _ _ _ _ (scalar-stands _ _ _ s) (omega arith) (p .ensures))
 
 returns-4 : tie.Need-returns-4 Inv-loop μ-loop
 returns-4 c = let i = c .before .loop .inv in (i .passed, i .ends)

@@ -11,6 +11,6 @@ table-schema-spec =
     (tie.spec
     (λ c. (table-no-row _ _ _ _ (c .if1 .taken), tt))
     (λ c. search needs)
-    (λ c κs. (omega arith, omega arith, omega arith, omega arith))
+    (λ c κs. (omega arith, omega arith, omega arith, omega arith, omega arith))
     (λ c. search needs)
     (λ c. (rw (table-opens _ _ _ _ (c .before .before .before .before .if1 .left)) (c .before .before .record-kinds .ensures .0), c .before .before .record-kinds .ensures .1)))

@@ -32,4 +32,4 @@ fastest-spec =
     let e = c .before .before .before .before .next .given .1 in
     let l = rw e at (c .before .before .before .before .before .before .before .before .vector .ensures .0) in
     let b = rw e at (c .before .before .before .before .before .before .before .before .vector .ensures .1) in
-    (told-shaped _ _ _ _ _ _ _ _ _ _ l (fastest-there _ _ _ _ _ _ (l .read) (c .before .before .if1 .left) (sym (c .if2 .left))), (omega arith, b .1))))
+    (told-shaped _ _ _ _ _ _ _ _ _ _ _ l (fastest-there _ _ _ _ _ _ (l .read) (c .before .before .if1 .left) (sym (c .if2 .left))), (omega arith, b .1))))

@@ -16,9 +16,9 @@ plain-spec =
     (λ c. search needs)
     (λ c. search needs)
     (λ c. search needs)
-    (λ c. ((λ lent words. plain-wrong _ _ _ _ _ (sym (c .before .before .before .integer .ensures .0) ∙ ap parsed (c .before .number .given .1))), (λ lent h g. tt)))
+    (λ c. ((λ lent ancestry words. plain-wrong _ _ _ _ _ (sym (c .before .before .before .integer .ensures .0) ∙ ap parsed (c .before .number .given .1))), (λ lent h g. tt)))
     (λ c.
     let i = c .before .before .before .integer in
     let e = c .before .n .given .1 in
     let b = rw e at (i .ensures .1) in
-    ((λ lent words. rw (plain-there _ _ _ _ _ (sym (i .ensures .0) ∙ ap parsed e)) (told-plain _ _ _ _ (b .0))), (λ lent h g. omega arith))))
+    ((λ lent ancestry words. rw (plain-there _ _ _ _ _ (sym (i .ensures .0) ∙ ap parsed e)) (told-plain _ _ _ _ _ (b .0))), (λ lent h g. omega arith))))

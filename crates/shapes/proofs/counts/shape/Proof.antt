@@ -11,7 +11,7 @@ shape-spec =
     (λ c. (shape-early _ _ _ _ _ (c .if1 .taken), tt))
     (λ c. search needs)
     (λ c κs. search needs)
-    (λ c. let p = c .plain in (rw (shape-plain _ _ _ _ _ (c .before .before .before .if1 .left) (c .before .if2 .taken)) (p .ensures .0 _ _), p .ensures .1 _ (c .before .before .before .before .before .before .pre .rowLent) (c .before .before .before .before .before .before .pre .rowByte)))
+    (λ c. let p = c .plain in (rw (shape-plain _ _ _ _ _ (c .before .before .before .if1 .left) (c .before .if2 .taken)) (p .ensures .0 _ _ _), p .ensures .1 _ (c .before .before .before .before .before .before .pre .rowLent) (c .before .before .before .before .before .before .pre .rowByte)))
     (λ c. search needs)
     (λ c. (shape-short _ _ _ _ _ (c .before .before .before .if1 .left) (c .before .if2 .left) (c .if3 .taken), tt))
     (λ c. search needs)

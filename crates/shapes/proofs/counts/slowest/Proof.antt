@@ -20,4 +20,4 @@ slowest-spec =
     (λ c.
     let e = c .before .next .given .1 in
     let l = rw e at (c .before .before .before .before .before .vector .ensures .0) in
-    (told-shaped _ _ _ _ _ _ _ _ _ _ l (slowest-there _ _ _ _ _ _ (l .read)), rw e at (c .before .before .before .before .before .vector .ensures .1))))
+    (told-shaped _ _ _ _ _ _ _ _ _ _ _ l (slowest-there _ _ _ _ _ _ (l .read)), rw e at (c .before .before .before .before .before .vector .ensures .1))))

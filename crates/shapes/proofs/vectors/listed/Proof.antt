@@ -10,20 +10,21 @@ use Rattle.format.specs.Dimensions.{marked, listed}
 use Rattle.tokens.specs.Answers.{Here}
 use Rattle.tokens.proofs.Sofar.{seq-fault}
 use Rattle.shapes.proofs.Cases.{listed-none, listed-early, listed-closed, listed-more}
+use Rattle.rows.specs.Row.{ancestryOf}
 use Rattle.dimensions.proofs.Going.{Going, going-start, going-as, going-step, going-fault, going-end}
 use Rattle.shapes.proofs.vectors.listed.Statement.{statement}
 use Rattle.shapes.proofs.vectors.listed.Tie as tie
 
 abbrev Inv-loop : tie.InvT-loop
-Inv-loop message rows₀ lent place at row end left₀ here₀ free₀ many₀ rows left here free many =
+Inv-loop message rows₀ lent place at row ancestry end left₀ here₀ free₀ many₀ rows left here free many =
     Here message lent here free
     × (at ≤ here)
     × (many ≤ limit + 1)
     × (length rows ≡ length rows₀)
-    × Going ((marked message lent ⨾ listed message lent dimensionLimit place) at row) row rows₀ ((marked message lent ⨾ listed message lent left place) here free) free many rows
+    × Going ((marked message lent ⨾ listed message lent dimensionLimit place) at row) row (ancestryOf ancestry) rows₀ ((marked message lent ⨾ listed message lent left place) here free) free many rows
 
 abbrev μ-loop : tie.MeasureT-loop
-μ-loop message rows₀ lent place at row end left₀ here₀ free₀ many₀ rows left here free many = left
+μ-loop message rows₀ lent place at row ancestry end left₀ here₀ free₀ many₀ rows left here free many = left
 
 pub listed-spec : {M : Type 1} → statement M
 listed-spec =
@@ -31,7 +32,7 @@ listed-spec =
     (tie.spec
     Inv-loop
     μ-loop
-    (λ c. (c .before .before .pre, omega arith, omega arith, refl, going-start _ _ _))
+    (λ c. (c .before .before .pre, omega arith, omega arith, refl, going-start _ _ _ _))
     (λ c κs. c .before .loop .inv .0)
     (λ c. search needs)
     (λ c. c .before .before .before .before .before .marked .kept .1 .0 ∙ c .before .before .before .before .before .before .before .loop .inv .3)

@@ -10,20 +10,21 @@ use Rattle.tokens.specs.Answers.{Here}
 use Rattle.tokens.proofs.Sofar.{seq-fault}
 use Rattle.dimensions.specs.Answers.{itemOf}
 use Rattle.shapes.proofs.Cases.{repeat-none, repeat-more}
+use Rattle.rows.specs.Row.{ancestryOf}
 use Rattle.dimensions.proofs.Going.{Going, going-start, going-step, going-fault, going-end}
 use Rattle.shapes.proofs.vectors.repeated.Statement.{statement}
 use Rattle.shapes.proofs.vectors.repeated.Tie as tie
 
 abbrev Inv-loop : tie.InvT-loop
-Inv-loop message rows₀ lent n form at row left₀ here₀ free₀ many₀ rows left here free many =
+Inv-loop message rows₀ lent n form at row ancestry left₀ here₀ free₀ many₀ rows left here free many =
     Here message lent here free
     × (at ≤ here)
     × (many ≤ limit + 1)
     × (length rows ≡ length rows₀)
-    × Going (repeat n (itemOf message lent form) at row) row rows₀ (repeat left (itemOf message lent form) here free) free many rows
+    × Going (repeat n (itemOf message lent form) at row) row (ancestryOf ancestry) rows₀ (repeat left (itemOf message lent form) here free) free many rows
 
 abbrev μ-loop : tie.MeasureT-loop
-μ-loop message rows₀ lent n form at row left₀ here₀ free₀ many₀ rows left here free many = left
+μ-loop message rows₀ lent n form at row ancestry left₀ here₀ free₀ many₀ rows left here free many = left
 
 pub repeated-spec : {M : Type 1} → statement M
 repeated-spec =
@@ -31,7 +32,7 @@ repeated-spec =
     (tie.spec
     Inv-loop
     μ-loop
-    (λ c. (c .before .before .pre .0, omega arith, omega arith, refl, going-start _ _ _))
+    (λ c. (c .before .before .pre .0, omega arith, omega arith, refl, going-start _ _ _ _))
     (λ c κs. (c .before .before .loop .inv .0, c .before .before .before .before .before .pre .1))
     (λ c. search needs)
     (λ c. c .before .before .before .before .before .item .kept .1 .0 ∙ c .before .before .before .before .before .before .before .before .loop .inv .3)

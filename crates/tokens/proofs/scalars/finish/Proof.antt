@@ -16,4 +16,4 @@ finish-spec =
     (λ c κs. omega arith)
     (λ c. let e = c .before .end .given .1 in (rw e refl, λ low high lent w h k. tt))
     (λ c. search needs)
-    (λ c. let e = c .before .before .before .before .before .end2 .given .1 in (rw e (laid-alone _ _ _ _ _ (c .before .before .put .ensures)), λ low high lent w h k. let v = rw e at w in omega arith)))
+    (λ c. let e = c .before .before .before .before .before .end2 .given .1 in (rw e (laid-alone _ _ _ _ _ _ (c .before .before .put .ensures)), λ low high lent w h k. let v = rw e at w in omega arith)))

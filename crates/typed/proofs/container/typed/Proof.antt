@@ -14,17 +14,17 @@ type-at-requires c κs =
 table-requires : tie.Need-table-requires
 table-requires c κs =
     let w = rw (c .before .enum-told .given .1) at (c .before .before .before .type-at .ensures .1) in
-    (c .before .before .before .before .before .before .pre .0, w, c .before .before .before .before .before .before .pre .2)
+    (c .before .before .before .before .before .before .pre .0, w, c .before .before .before .before .before .before .pre .2, c .before .before .before .before .before .before .pre .3)
 
 typed-object-requires : tie.Need-typed-object-requires
 typed-object-requires c κs =
     let w = rw (c .before .before .before .mark .given .1) at (c .before .before .before .before .before .type-at .ensures .1) in
-    (c .before .before .before .before .before .before .before .before .pre .0, c .before .before .before .before .before .before .before .before .pre .2, omega arith, w .0, type-wide _ (w .1))
+    (c .before .before .before .before .before .before .before .before .pre .0, c .before .before .before .before .before .before .before .before .pre .2, omega arith, w .0, type-wide _ (w .1), c .before .before .before .before .before .before .before .before .pre .3)
 
 packed-requires : tie.Need-packed-requires
 packed-requires c κs =
     let w = rw (c .before .before .before .mark .given .1) at (c .before .before .before .before .before .type-at .ensures .1) in
-    (c .before .before .before .before .before .before .before .before .pre .0, c .before .before .before .before .before .before .before .before .pre .2, omega arith, w .0, w .1)
+    (c .before .before .before .before .before .before .before .before .pre .0, c .before .before .before .before .before .before .before .before .pre .2, omega arith, w .0, w .1, c .before .before .before .before .before .before .before .before .pre .3)
 
 returns : tie.Need-returns
 returns c =

@@ -34,13 +34,13 @@ returns-2 c =
     let t = rw (c .before .before .before .before .next .given .1) at (c .before .before .before .before .before .before .before .before .shape .ensures .0) in
     let w = rw (c .before .before .before .before .next .given .1) at (c .before .before .before .before .before .before .before .before .shape .ensures .1) in
     let k : t .shape .many ≡ c .before .before .before .before .next .given .0 .1 .1 .0 = omega (arith, t .times, c .before .before .if1 .left) in
-    let e : t .shape .many * width (c .before .before .before .before .before .before .before .before .before .before .before .before .args .mark) ≡ c .before .before .before .before .next .given .0 .1 .1 .0 * c .before .width .result = rw (k, c .before .width .ensures) refl in
+    let e : t .shape .many * width (c .before .before .before .before .before .before .before .before .before .before .before .before .before .args .mark) ≡ c .before .before .before .before .next .given .0 .1 .1 .0 * c .before .width .result = rw (k, c .before .width .ensures) refl in
     (packed-early _ _ _ _ _ _ (t .shape) _ (t .read) (omega arith) (omega (arith, c .if2 .taken)), tt)
 
 packed-contents-requires : tie.Need-packed-contents-requires
 packed-contents-requires c κs =
     let w = rw (c .before .before .before .before .next .given .1) at (c .before .before .before .before .before .before .before .before .shape .ensures .1) in
-    (c .before .before .before .before .before .before .before .before .before .before .before .before .pre .4, rw (← c .before .width .ensures) (omega arith))
+    (c .before .before .before .before .before .before .before .before .before .before .before .before .before .pre .4, rw (← c .before .width .ensures) (omega arith))
 
 store-row-requires : tie.Need-store-row-requires
 store-row-requires c κs =
@@ -54,17 +54,17 @@ returns-3 c =
 returns-4 : tie.Need-returns-4
 unfolding stored members isKind if_then_else_
 returns-4 c =
-    let t = rw (c .before .before .before .before .before .before .before .before .before .next .given .1) at (c .before .before .before .before .before .before .before .before .before .before .before .before .before .shape .ensures .0) in
+    let t = rw (c .before .before .before .before .before .before .before .before .before .next .given .1, c .before .before .before .before .before .before .before .before .before .before .before .before .before .before .before .held-by .ensures .0) at (c .before .before .before .before .before .before .before .before .before .before .before .before .before .shape .ensures .0) in
     let w = rw (c .before .before .before .before .before .before .before .before .before .next .given .1) at (c .before .before .before .before .before .before .before .before .before .before .before .before .before .shape .ensures .1) in
     let k : c .before .before .before .before .before .before .before .before .before .next .given .0 .1 .1 .0 ≡ t .shape .many = omega (arith, t .times, c .before .before .before .before .before .before .before .if1 .left) in
     let z = c .before .before .store-row in
     let p = c .before .before .before .before .packed-contents in
-    let a = c .before .before .before .before .before .before .before .before .before .before .before .before .before .before .before .before .before .args in
+    let a = c .before .before .before .before .before .before .before .before .before .before .before .before .before .before .before .before .before .before .args in
     let few : t .shape .many ≤ limit = omega (arith, c .before .before .before .before .before .before .before .if1 .left) in
     let fits : c .before .before .before .before .before .before .before .before .before .next .given .0 .0 + t .shape .many * width (a .mark) ≤ length (a .message .now) = rw (← k, ← c .before .before .before .before .before .before .width .ensures) (omega (arith, c .before .before .before .before .before .if2 .left)) in
     let q = rw k at (p .ensures (a .row)) in (
       rw (packed-there _ _ _ _ _ _ (t .shape) _ (t .read) few (p .result) fits q, ← k, ← c .before .before .before .before .before .before .width .ensures, ← t .ordered) (z .ensures .0 _ (t .shape .dimensions) (t .took) (t .lie)),
-      z .ensures .1 _ _ _ (omega arith) (omega (arith, c .before .before .before .before .before .if2 .left)) (omega arith) (omega arith),
+      z .ensures .1 _ _ _ (omega (arith, c .before .before .before .before .before .before .before .before .before .before .before .before .before .before .before .before .before .before .pre .2)) (omega (arith, c .before .before .before .before .before .if2 .left)) (omega arith) (omega arith),
     )
 
 pub packed-spec : {M : Type 1} → statement M
@@ -72,6 +72,7 @@ packed-spec =
     tie.close
     (tie.spec
     (λ c. omega arith)
+    (λ c κs. omega arith)
     (λ c κs. omega arith)
     (λ c. search needs)
     (λ c. search needs)

@@ -9,7 +9,7 @@ use Rattle.typed.proofs.table.table.Tie as tie
 
 table-schema-requires : tie.Need-table-schema-requires
 table-schema-requires c κs =
-    (record { short = c .before .before .before .pre .0 .short; inside = omega arith; rowLent = omega arith; rowByte = omega (arith, c .before .before .before .pre .0) }, omega arith)
+    (record { short = c .before .before .before .before .pre .0 .short; inside = omega arith; rowLent = omega arith; rowByte = omega (arith, c .before .before .before .before .pre .0) }, omega arith, omega (arith, c .before .held-by .ensures .1))
 
 returns : tie.Need-returns
 returns c =
@@ -24,13 +24,13 @@ returns-2 c =
 shape-requires : tie.Need-shape-requires
 shape-requires c κs =
     let w = rw (c .before .before .before .before .before .from .given .1) at (c .before .before .before .before .before .before .before .before .before .table-schema .ensures .1) in
-    record { short = c .before .before .before .before .before .before .before .before .before .before .before .before .before .pre .0 .short; inside = omega arith; rowLent = omega (arith, w); rowByte = omega (arith, w) }
+    record { short = c .before .before .before .before .before .before .before .before .before .before .before .before .before .before .pre .0 .short; inside = omega arith; rowLent = omega (arith, w); rowByte = omega (arith, w) }
 
 table-payload-requires : tie.Need-table-payload-requires
 table-payload-requires c κs =
     let w = rw (c .before .before .before .before .before .before .before .before .before .before .before .before .from .given .1) at (c .before .before .before .before .before .before .before .before .before .before .before .before .before .before .before .before .table-schema .ensures .1) in
     let v = rw (c .before .before .next .given .1) at (c .before .before .before .before .before .before .shape .ensures .1) in
-    record { short = c .before .before .before .before .before .before .before .before .before .before .before .before .before .before .before .before .before .before .before .before .pre .0 .short; on = omega (arith, w, v); inside = omega (arith, v); rowByte = omega arith; linkByte = omega (arith, v); narrow = omega (arith, w); few = omega (arith, v) }
+    record { short = c .before .before .before .before .before .before .before .before .before .before .before .before .before .before .before .before .before .before .before .before .before .pre .0 .short; on = omega (arith, w, v); inside = omega (arith, v); rowByte = omega (arith, c .before .before .before .before .before .before .before .before .before .before .before .before .before .before .before .before .before .before .before .before .before .pre .0); linkByte = omega (arith, v); narrow = omega (arith, w); few = omega (arith, v) }
 
 returns-3 : tie.Need-returns-3
 returns-3 c =
@@ -49,13 +49,14 @@ returns-5 c =
     let u = rw (c .before .before .before .before .before .next .given .1) at (c .before .before .before .before .before .before .before .before .before .shape .ensures .0) in
     let v = rw (c .before .before .before .before .before .next .given .1) at (c .before .before .before .before .before .before .before .before .before .shape .ensures .1) in
     let z = c .before .before .table-payload .ensures in
-    (z .0 _ _ (header-read _ _ _ _ _ _ _ _ _ _ _ _ _ _ t (omega arith) (omega arith) u), z .1 _ (omega (arith, v)))
+    (z .0 _ _ (rw (c .before .before .before .before .before .before .before .before .before .before .before .before .before .before .before .before .before .before .before .before .before .held-by .ensures .0) at (header-read _ _ _ _ _ _ _ _ _ _ _ _ _ _ _ t (omega arith) (omega arith) u)), z .1 _ (omega (arith, v)))
 
 pub table-spec : {M : Type 1} → statement M
 table-spec =
     tie.close
     (tie.spec
     (λ c. omega arith)
+    (λ c κs. omega arith)
     (λ c. omega arith)
     table-schema-requires
     (λ c. search needs)
