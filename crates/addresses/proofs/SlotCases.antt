@@ -16,7 +16,7 @@ use Rattle.format.specs.Rows.{Row, rowAt, rowsIn}
 use Rattle.format.specs.Indexes.{inRange, numberIn}
 use Rattle.format.specs.Storage.{memberRow}
 use Rattle.format.specs.Bytes.{within}
-use Rattle.format.specs.Addresses.{Region, along, isPacked, isTable, isSchema, dimensions, seek, inside, packedSlot, tableSlot}
+use Rattle.format.specs.Addresses.{Region, childOf, along, isPacked, isTable, isSchema, dimensions, seek, inside, packedSlot, tableSlot}
 use Rattle.indexes.specs.Sums.{most, capped}
 use Rattle.addresses.specs.Slots.{inRecord, Placed}
 
@@ -129,11 +129,11 @@ module _ (ws : List ℕ) (size row leafRow : ℕ) (is : List ℕ) where
   table-unfit n e = rw e refl
 
   module _ (stop : ℕ) (e : along ws isTable (rowsIn ws) row ≡ done stop) where
-    pub table-schemaless : (n : ℕ) → along ws isSchema stop (row + 1) ≡ fault n 0 → fault n 0 ≡ tableSlot ws size row leafRow is
+    pub table-schemaless : (n : ℕ) → along ws (childOf row isSchema) stop (row + 1) ≡ fault n 0 → fault n 0 ≡ tableSlot ws size row leafRow is
     unfolding tableSlot _>>=_
     table-schemaless n q = rw (e, q) refl
 
-    module _ (from : ℕ) (q : along ws isSchema stop (row + 1) ≡ done from) where
+    module _ (from : ℕ) (q : along ws (childOf row isSchema) stop (row + 1) ≡ done from) where
       pub table-leafless : (n : ℕ) → seek ws leafRow (length ws) (row + 1) (memberRow row) ≡ fault n 0 → fault n 0 ≡ tableSlot ws size row leafRow is
       unfolding tableSlot _>>=_
       table-leafless n s = rw (e, q, s) refl

@@ -12,6 +12,7 @@ use rows::load;
 use ways::dimensions::Gathered;
 use ways::dimensions::extents;
 use ways::links::along;
+use ways::links::along_child;
 use ways::members::field;
 use ways::needs::Need;
 ghost use mathlib.Core.Path.{_≡_};
@@ -136,7 +137,7 @@ pub fn table(rows: &[u32], size: usize, row: usize, leaf: usize, indexes: &[usiz
         Found::Refused(number) => return Slot::Refused(number),
         Found::Row(link) => link,
     };
-    let from = match along(rows, Need::Schema, stop, row + 1) {
+    let from = match along_child(rows, row, Need::Schema, stop, row + 1) {
         Found::Refused(number) => return Slot::Refused(number),
         Found::Row(link) => link,
     };

@@ -1,15 +1,16 @@
 -- A row on the way: an equation for each way through `along`, and what its answer tells. Assumes nothing.
-use Prim.Native.Nat.{ℕ, _≤_, _<_}
-use mathlib.Core.Path.{_≡_, refl, subst}
+use Prim.Native.Nat.{ℕ, _+_, _≤_, _<_}
+use mathlib.Core.Path.{_≡_, refl, sym, subst, _∙_}
 use mathlib.Core.Bool.{Bool, true, false, _&&_}
 use mathlib.Core.List.{List}
 use native.Mathlib.Omega.{arith}
+use native.Mathlib.Decide.{decLt}
 use lib.Dec.{leb, ltb}
-use borrow.Author.Tests.{lt-ltb, le-ltb, le-leb, lt-leb, ltb-true, leb-true}
+use borrow.Author.Tests.{lt-ltb, le-ltb, le-leb, lt-leb, ltb-true, leb-true, eq-eqb, ne-eqb}
 use Rattle.format.specs.Outcome.{Outcome, fault, done, guard, _>>_}
 use Rattle.format.specs.Refusals.{rowsDontFit}
-use Rattle.format.specs.Rows.{Row, rowAt}
-use Rattle.format.specs.Addresses.{along}
+use Rattle.format.specs.Rows.{Row, rowAt, rowsIn}
+use Rattle.format.specs.Addresses.{childOf, along}
 use Rattle.format.proofs.Tests.{both-true}
 
 module _ (ws : List ℕ) (fits : Row → Bool) (stop row : ℕ) where
@@ -81,3 +82,19 @@ module _ (ws : List ℕ) (fits : Row → Bool) (stop row : ℕ) where
       go : (o : Outcome ℕ) → Walked o → o ≡ fault n 0 → n ≡ rowsDontFit
       go o (follows f) e = let z : _≡_ {A = ℕ} 0 1 = cc in absurd (omega arith)
       go o stuck e = cc
+
+-- a row that names another parent, or this one; past the rows, whatever was read
+module _ (ws : List ℕ) (container : ℕ) (fits : Row → Bool) (stop row : ℕ) (inside : stop ≤ rowsIn ws) (r : Row) (read : row < rowsIn ws → r ≡ rowAt ws row) where
+  pub along-other : (r .parent ≡ container + 1 → ⊥) → fault rowsDontFit 0 ≡ along ws (childOf container fits) stop row
+  unfolding childOf
+  along-other c = elim (decLt row stop) [
+    | yes h ↦ along-unfit ws (childOf container fits) stop row h r (read (omega arith)) (rw (ne-eqb _ _ c))
+    | no h ↦ along-late ws (childOf container fits) stop row (omega arith)
+  ]
+
+  pub along-own : r .parent ≡ container + 1 → along ws fits stop row ≡ along ws (childOf container fits) stop row
+  unfolding along childOf
+  along-own e = elim (decLt row stop) [
+    | yes h ↦ rw (← read (omega arith), eq-eqb _ _ e) refl
+    | no h ↦ sym (along-late ws fits stop row (omega arith)) ∙ along-late ws (childOf container fits) stop row (omega arith)
+  ]

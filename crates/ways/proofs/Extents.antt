@@ -14,7 +14,7 @@ use Rattle.format.specs.Limits.{dimensionLimit}
 use Rattle.format.specs.Refusals.{rowsDontFit}
 use Rattle.format.specs.Tokens.{plainCount}
 use Rattle.format.specs.Rows.{Row, rowAt}
-use Rattle.format.specs.Addresses.{along, isDimension, dimensionsFrom, dimensions}
+use Rattle.format.specs.Addresses.{childOf, along, isDimension, dimensionsFrom, dimensions}
 use Rattle.ways.specs.Dimensions.{someFew}
 use Rattle.ways.proofs.Along.{followed, Walked, follows, stuck, walked}
 
@@ -57,7 +57,7 @@ pub record Sofar (ws : List ℕ) (container stop from row : ℕ) (ds : List ℕ)
 
 module _ (ws : List ℕ) (container stop : ℕ) (ends : stop ≡ rowAt ws container .link) where
   -- a dimension and those after it, the end, and a row that can't be followed
-  one-more : (fuel row next : ℕ) → row < stop → along ws isDimension stop row ≡ done next
+  one-more : (fuel row next : ℕ) → row < stop → along ws (childOf container isDimension) stop row ≡ done next
       → dimensionsFrom ws (suc fuel) container row ≡ (dimensionsFrom ws fuel container next >>= λ ds. done (rowAt ws row .count ∷ ds))
   unfolding dimensionsFrom if_then_else_ _>>=_
   one-more fuel row next h e = rw (← ends, lt-leb stop row h, e) refl
@@ -67,7 +67,7 @@ module _ (ws : List ℕ) (container stop : ℕ) (ends : stop ≡ rowAt ws contai
   no-more zero row h = refl
   no-more (suc fuel) row h = rw (← ends, le-leb stop row h) refl
 
-  no-way : (fuel row n : ℕ) → row < stop → along ws isDimension stop row ≡ fault n 0 → dimensionsFrom ws (suc fuel) container row ≡ fault n 0
+  no-way : (fuel row n : ℕ) → row < stop → along ws (childOf container isDimension) stop row ≡ fault n 0 → dimensionsFrom ws (suc fuel) container row ≡ fault n 0
   unfolding dimensionsFrom if_then_else_ _>>=_
   no-way fuel row n h e = rw (← ends, lt-leb stop row h, e) refl
 
@@ -75,7 +75,7 @@ module _ (ws : List ℕ) (container stop : ℕ) where
   pub sofar-start : (from : ℕ) → stop ≡ rowAt ws container .link → stop ≤ length ws → Sofar ws container stop from from []
   sofar-start from e h = record { ends = e; steps = length ws; enough = omega arith; rest = after-none _ }
 
-  pub sofar-on : (from row next : ℕ) (ds : List ℕ) → Sofar ws container stop from row ds → row < stop → along ws isDimension stop row ≡ done next
+  pub sofar-on : (from row next : ℕ) (ds : List ℕ) → Sofar ws container stop from row ds → row < stop → along ws (childOf container isDimension) stop row ≡ done next
       → Sofar ws container stop from next (ds ++ rowAt ws row .count ∷ [])
   sofar-on from row next ds s h e = go (s .steps) (s .enough) (s .rest)
     where
@@ -83,12 +83,12 @@ module _ (ws : List ℕ) (container stop : ℕ) where
           → Sofar ws container stop from next (ds ++ rowAt ws row .count ∷ [])
       go zero k r = absurd (omega arith)
       go (suc steps) k r =
-          let up = followed ws isDimension stop row next e .up in
+          let up = followed ws (childOf container isDimension) stop row next e .up in
           record { ends = s .ends; steps = steps; enough = omega arith; rest = r ∙ ap (after ds) (one-more ws container stop (s .ends) steps row next h e) ∙ after-one ds _ _ }
 
   -- one more, stored after those gathered
   pub sofar-store : (from row next many x : ℕ) (into : List ℕ) → Sofar ws container stop from row (take many into) → row < stop
-      → along ws isDimension stop row ≡ done next → many < length into → x ≡ rowAt ws row .count → Sofar ws container stop from next (take (many + 1) (set into many x))
+      → along ws (childOf container isDimension) stop row ≡ done next → many < length into → x ≡ rowAt ws row .count → Sofar ws container stop from next (take (many + 1) (set into many x))
   sofar-store from row next many x into s h e few q =
       let k : many + 1 ≡ suc many = omega arith in
       rw (k, take-suc-set into many x few, q) (sofar-on from row next (take many into) s h e)
@@ -102,18 +102,18 @@ module _ (ws : List ℕ) (container stop : ℕ) where
       join o all-told = all-told
       join o not-told = not-told
 
-      on : ((k : ℕ) → Told (dimensionsFrom ws fuel container k)) → (o : Outcome ℕ) → Walked ws isDimension (rowAt ws container .link) row o
+      on : ((k : ℕ) → Told (dimensionsFrom ws fuel container k)) → (o : Outcome ℕ) → Walked ws (childOf container isDimension) (rowAt ws container .link) row o
           → Told (o >>= λ next. dimensionsFrom ws fuel container next >>= λ ds. done (rowAt ws row .count ∷ ds))
       on rest o (follows {next = next} f) = join (dimensionsFrom ws fuel container next) (rest next)
       on rest o stuck = not-told
 
-      go : ((k : ℕ) → Told (dimensionsFrom ws fuel container k)) → (b : Bool) → Told (if b then done [] else (along ws isDimension (rowAt ws container .link) row >>= λ next.
+      go : ((k : ℕ) → Told (dimensionsFrom ws fuel container k)) → (b : Bool) → Told (if b then done [] else (along ws (childOf container isDimension) (rowAt ws container .link) row >>= λ next.
           dimensionsFrom ws fuel container next >>= λ ds. done (rowAt ws row .count ∷ ds)))
       go rest true = all-told
-      go rest false = on rest (along ws isDimension (rowAt ws container .link) row) (walked ws isDimension (rowAt ws container .link) row)
+      go rest false = on rest (along ws (childOf container isDimension) (rowAt ws container .link) row) (walked ws (childOf container isDimension) (rowAt ws container .link) row)
 
   -- a row that can't be followed
-  pub sofar-refused : (from row n : ℕ) (ds : List ℕ) → Sofar ws container stop from row ds → row < stop → along ws isDimension stop row ≡ fault n 0
+  pub sofar-refused : (from row n : ℕ) (ds : List ℕ) → Sofar ws container stop from row ds → row < stop → along ws (childOf container isDimension) stop row ≡ fault n 0
       → someFew ws container from ≡ fault n 0
   unfolding someFew _>>=_
   sofar-refused from row n ds s h e = go (s .steps) (s .enough) (s .rest)
@@ -124,7 +124,7 @@ module _ (ws : List ℕ) (container stop : ℕ) where
       go (suc steps) k r = ap few (r ∙ ap (after ds) (no-way ws container stop (s .ends) steps row n h e))
 
   -- a ninth dimension
-  pub sofar-ninth : (from row next : ℕ) (ds : List ℕ) → Sofar ws container stop from row ds → row < stop → along ws isDimension stop row ≡ done next
+  pub sofar-ninth : (from row next : ℕ) (ds : List ℕ) → Sofar ws container stop from row ds → row < stop → along ws (childOf container isDimension) stop row ≡ done next
       → dimensionLimit ≤ length ds → someFew ws container from ≡ fault rowsDontFit 0
   unfolding someFew
   sofar-ninth from row next ds s h e k =

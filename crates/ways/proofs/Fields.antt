@@ -10,7 +10,7 @@ use Rattle.format.specs.Conditions.{if_then_else_}
 use Rattle.format.specs.Outcome.{Outcome, fault, done, guard, _>>=_, _>>_}
 use Rattle.format.specs.Refusals.{rowsDontFit}
 use Rattle.format.specs.Rows.{Row, rowAt, rowsIn}
-use Rattle.format.specs.Addresses.{along, seek, isSchema, isKey, isMember, isLeafRow}
+use Rattle.format.specs.Addresses.{childOf, along, seek, isSchema, isKey, isMember, isLeafRow}
 use Rattle.ways.specs.Members.{memberFrom, outermostOf, passing, Goes, Passes, Steps}
 use Rattle.ways.specs.declared.members.Step.{Step}
 use Rattle.ways.specs.declared.members.Step.the-variants.{Refused, Leaf, Inside, Next}
@@ -18,46 +18,46 @@ use Rattle.ways.proofs.Along.{followed}
 
 -- ---- at a member
 
-module _ (ws : List ℕ) (leafRow : ℕ) (c : Row) (here : ℕ) where
-  pub pass-refused : (n : ℕ) → along ws isMember (c .link) here ≡ fault n 0 → Passes ws leafRow c here (Refused n)
+module _ (ws : List ℕ) (leafRow container : ℕ) (c : Row) (here : ℕ) where
+  pub pass-refused : (n : ℕ) → along ws (childOf container isMember) (c .link) here ≡ fault n 0 → Passes ws leafRow container c here (Refused n)
   unfolding passing _>>=_
   pass-refused n e inside after = rw e refl
 
-  module _ (next : ℕ) (e : along ws isMember (c .link) here ≡ done next) where
+  module _ (next : ℕ) (e : along ws (childOf container isMember) (c .link) here ≡ done next) where
     goes : Goes ws c here next
-    goes = let f = followed ws isMember (c .link) here next e in record { inside = f .before; link = f .link; up = f .up; stops = f .inside }
+    goes = let f = followed ws (childOf container isMember) (c .link) here next e in record { inside = f .before; link = f .link; up = f .up; stops = f .inside }
 
     -- the leaf stands before it, or after it
-    pub pass-before : leafRow < here → Passes ws leafRow c here (Next next)
+    pub pass-before : leafRow < here → Passes ws leafRow container c here (Next next)
     unfolding passing if_then_else_ _>>=_
     pass-before h =
         ((λ inside after. rw (e, ne-eqb here leafRow (λ q. omega arith), le-ltb here leafRow (omega arith)) refl), goes)
 
-    pub pass-after : next ≤ leafRow → Passes ws leafRow c here (Next next)
+    pub pass-after : next ≤ leafRow → Passes ws leafRow container c here (Next next)
     unfolding passing if_then_else_ _>>=_
     pass-after h =
         let up = goes .up in
         ((λ inside after. rw (e, ne-eqb here leafRow (λ q. omega arith), lt-ltb here leafRow (omega arith), le-ltb leafRow next h) refl), goes)
 
     -- it is the leaf's row
-    pub pass-leaf : leafRow ≡ here → isLeafRow (rowAt ws here) ≡ true → Passes ws leafRow c here (Leaf here)
+    pub pass-leaf : leafRow ≡ here → isLeafRow (rowAt ws here) ≡ true → Passes ws leafRow container c here (Leaf here)
     unfolding passing if_then_else_ guard _>>=_ _>>_
     pass-leaf h l = let g = goes .inside in ((λ inside after. rw (e, eq-eqb here leafRow (sym h), l) refl), sym h, omega arith)
 
-    pub pass-no-leaf : leafRow ≡ here → isLeafRow (rowAt ws here) ≡ false → Passes ws leafRow c here (Refused rowsDontFit)
+    pub pass-no-leaf : leafRow ≡ here → isLeafRow (rowAt ws here) ≡ false → Passes ws leafRow container c here (Refused rowsDontFit)
     unfolding passing if_then_else_ guard _>>=_ _>>_
     pass-no-leaf h l inside after = rw (e, eq-eqb here leafRow (sym h), l) refl
 
     -- the leaf's row stands inside it
     module _ (apart : leafRow ≡ here → ⊥) (low : here ≤ leafRow) (high : leafRow < next) where
-      pub pass-inside : isLeafRow (rowAt ws here) ≡ false → Passes ws leafRow c here (Inside here)
+      pub pass-inside : isLeafRow (rowAt ws here) ≡ false → Passes ws leafRow container c here (Inside here)
       unfolding passing if_then_else_ guard _>>=_ _>>_
       pass-inside l =
           let less : here < leafRow = omega arith in
           let g = goes in
           ((λ inside after. rw (e, ne-eqb here leafRow (λ q. apart (sym q)), lt-ltb here leafRow less, lt-ltb leafRow next high, l) refl), refl, subst (Goes ws c here) (sym (g .link)) g)
 
-      pub pass-in-leaf : isLeafRow (rowAt ws here) ≡ true → Passes ws leafRow c here (Refused rowsDontFit)
+      pub pass-in-leaf : isLeafRow (rowAt ws here) ≡ true → Passes ws leafRow container c here (Refused rowsDontFit)
       unfolding passing if_then_else_ guard _>>=_ _>>_
       pass-in-leaf l inside after =
           let less : here < leafRow = omega arith in
@@ -66,38 +66,38 @@ module _ (ws : List ℕ) (leafRow : ℕ) (c : Row) (here : ℕ) where
 -- ---- at a row of a container
 
 -- the member stands at the row or after it
-member-up : (ws : List ℕ) (c : Row) (row here : ℕ) → memberFrom ws c row ≡ done here → row ≤ here
+member-up : (ws : List ℕ) (container : ℕ) (c : Row) (row here : ℕ) → memberFrom ws container c row ≡ done here → row ≤ here
 unfolding memberFrom if_then_else_
-member-up ws c row here = go (isSchema c)
+member-up ws container c row here = go (isSchema c)
   where
-    go : (b : Bool) → (if b then along ws isKey (c .link) row else done row) ≡ done here → row ≤ here
-    go true e = let up = followed ws isKey (c .link) row here e .up in omega arith
+    go : (b : Bool) → (if b then along ws (childOf container isKey) (c .link) row else done row) ≡ done here → row ≤ here
+    go true e = let up = followed ws (childOf container isKey) (c .link) row here e .up in omega arith
     go false e = let q : row ≡ here = cc in omega arith
 
 -- `seek`, one member at a time
 seek-step : (ws : List ℕ) (leafRow fuel container row : ℕ) → seek ws leafRow (suc fuel) container row
-    ≡ (memberFrom ws (rowAt ws container) row >>= λ here. passing ws leafRow (rowAt ws container) here (λ x. seek ws leafRow fuel x (x + 1)) (seek ws leafRow fuel container))
+    ≡ (memberFrom ws container (rowAt ws container) row >>= λ here. passing ws leafRow container (rowAt ws container) here (λ x. seek ws leafRow fuel x (x + 1)) (seek ws leafRow fuel container))
 unfolding seek memberFrom passing
 seek-step ws leafRow fuel container row = refl
 
 module _ (ws : List ℕ) (leafRow container row : ℕ) where
-  pub advance-refused : (n : ℕ) → memberFrom ws (rowAt ws container) row ≡ fault n 0 → Steps ws leafRow container row (Refused n)
+  pub advance-refused : (n : ℕ) → memberFrom ws container (rowAt ws container) row ≡ fault n 0 → Steps ws leafRow container row (Refused n)
   unfolding _>>=_
   advance-refused n e fuel = seek-step ws leafRow fuel container row ∙ rw e refl
 
-  pub advance-at : (here : ℕ) → rowAt ws container .link ≤ rowsIn ws → memberFrom ws (rowAt ws container) row ≡ done here
-      → (r : Step) → Passes ws leafRow (rowAt ws container) here r → Steps ws leafRow container row r
+  pub advance-at : (here : ℕ) → rowAt ws container .link ≤ rowsIn ws → memberFrom ws container (rowAt ws container) row ≡ done here
+      → (r : Step) → Passes ws leafRow container (rowAt ws container) here r → Steps ws leafRow container row r
   unfolding _>>=_
   advance-at here l e r p = go r p
     where
       on : (fuel : ℕ) → seek ws leafRow (suc fuel) container row
-          ≡ passing ws leafRow (rowAt ws container) here (λ x. seek ws leafRow fuel x (x + 1)) (seek ws leafRow fuel container)
+          ≡ passing ws leafRow container (rowAt ws container) here (λ x. seek ws leafRow fuel x (x + 1)) (seek ws leafRow fuel container)
       on fuel = seek-step ws leafRow fuel container row ∙ rw e refl
 
       up : row ≤ here
-      up = member-up ws (rowAt ws container) row here e
+      up = member-up ws container (rowAt ws container) row here e
 
-      go : (r : Step) → Passes ws leafRow (rowAt ws container) here r → Steps ws leafRow container row r
+      go : (r : Step) → Passes ws leafRow container (rowAt ws container) here r → Steps ws leafRow container row r
       go (Refused n) p = λ fuel. on fuel ∙ p _ _
       go (Leaf x) p = let k = p .2 in ((λ fuel. on fuel ∙ p .0 _ _), p .1, omega arith)
       go (Inside x) p =

@@ -1,5 +1,5 @@
 // What a container's indexes are for: its count, or its dimensions.
-use crate::links::along;
+use crate::links::along_child;
 use crate::needs::Need;
 use format::answers::Found;
 use format::limits::DIMENSION_LIMIT;
@@ -26,7 +26,7 @@ fn rows_from(rows: &[u32], container: usize, stop: usize, from: usize, into: &mu
     let mut row = from;
     let mut many = 0;
     while row < stop {
-        match along(rows, Need::Dimension, stop, row) {
+        match along_child(rows, container, Need::Dimension, stop, row) {
             Found::Refused(number) => return Gathered::Refused(number),
             Found::Row(next) => {
                 if many == DIMENSION_LIMIT {

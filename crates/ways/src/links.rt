@@ -6,7 +6,7 @@ use rows::load;
 ghost use mathlib.Core.Path.{_≡_};
 ghost use Prim.Native.Nat.{_≤_};
 ghost use Rattle.format.specs.Rows.{rowsIn};
-ghost use Rattle.format.specs.Addresses.{along as alongIn};
+ghost use Rattle.format.specs.Addresses.{childOf, along as alongIn};
 ghost use Rattle.format.specs.Answers.{found};
 ghost use Rattle.ways.specs.Needs.{fitsOf};
 
@@ -31,4 +31,19 @@ pub fn along(rows: &[u32], need: Need, stop: usize, row: usize) -> Found
         return Found::Refused(12);
     }
     Found::Row(link)
+}
+
+// The same of a row that a container holds: it names the container as its parent.
+pub fn along_child(rows: &[u32], container: usize, need: Need, stop: usize, row: usize) -> Found
+    requires { ⌜ stop ≤ rowsIn (now rows) ⌝ }
+    ensures { λ r. ⌜ found r ≡ alongIn (now (rows .entry)) (childOf container (fitsOf need)) stop row ⌝ }
+{
+    let parent = load(rows, row).parent as usize;
+    if parent == 0 {
+        return Found::Refused(12);
+    }
+    if parent - 1 != container {
+        return Found::Refused(12);
+    }
+    along(rows, need, stop, row)
 }

@@ -1,5 +1,5 @@
 // The members of a schema: the top-level field that is a leaf or holds it.
-use crate::links::along;
+use crate::links::along_child;
 use crate::needs::Need;
 use crate::needs::fits;
 use format::answers::Found;
@@ -23,24 +23,24 @@ pub enum Step {
 }
 
 // The member of a container from a row on: in a schema it stands where its key's link leads.
-fn member(rows: &[u32], c: Row, row: usize) -> Found
+fn member(rows: &[u32], container: usize, c: Row, row: usize) -> Found
     requires { ⌜ (rowOf c) .link ≤ rowsIn (now rows) ⌝ }
-    ensures { λ r. ⌜ found r ≡ memberFrom (now (rows .entry)) (rowOf c) row ⌝ }
+    ensures { λ r. ⌜ found r ≡ memberFrom (now (rows .entry)) container (rowOf c) row ⌝ }
 {
     if fits(Need::Schema, c) {
         let stop = c.link as usize;
-        return along(rows, Need::Key, stop, row);
+        return along_child(rows, container, Need::Key, stop, row);
     }
     Found::Row(row)
 }
 
 // Whether this member is the leaf or holds it.
-fn pass(rows: &[u32], leaf: usize, c: Row, here: usize) -> Step
+fn pass(rows: &[u32], leaf: usize, container: usize, c: Row, here: usize) -> Step
     requires { ⌜ (rowOf c) .link ≤ rowsIn (now rows) ⌝ }
-    ensures { λ r. ⌜ Passes (now (rows .entry)) leaf (rowOf c) here r ⌝ }
+    ensures { λ r. ⌜ Passes (now (rows .entry)) leaf container (rowOf c) here r ⌝ }
 {
     let stop = c.link as usize;
-    match along(rows, Need::Member, stop, here) {
+    match along_child(rows, container, Need::Member, stop, here) {
         Found::Refused(number) => Step::Refused(number),
         Found::Row(next) => {
             if leaf < here {
@@ -70,9 +70,9 @@ fn advance(rows: &[u32], leaf: usize, container: usize, row: usize) -> Step
     ensures { λ r. ⌜ Steps (now (rows .entry)) leaf container row r ⌝ }
 {
     let c = load(rows, container);
-    match member(rows, c, row) {
+    match member(rows, container, c, row) {
         Found::Refused(number) => Step::Refused(number),
-        Found::Row(here) => pass(rows, leaf, c, here),
+        Found::Row(here) => pass(rows, leaf, container, c, here),
     }
 }
 

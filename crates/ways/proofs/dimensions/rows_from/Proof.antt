@@ -31,17 +31,17 @@ rows-from-spec =
     (λ c κs. c .before .before .before .before .pre .1)
     (λ c. search needs)
     (λ c. c .before .before .before .before .before .loop .inv .2 ∙ sym (c .before .before .before .before .before .before .before .before .pre .2))
-    (λ c. let e = sym (c .before .before .before .along .ensures) ∙ ap found (c .before .number .given .1) in sofar-refused _ _ _ _ _ _ _ (c .before .before .before .before .before .loop .inv .0) (c .before .before .before .before .loop-test .taken) e)
+    (λ c. let e = sym (c .before .before .before .along-child .ensures) ∙ ap found (c .before .number .given .1) in sofar-refused _ _ _ _ _ _ _ (c .before .before .before .before .before .loop .inv .0) (c .before .before .before .before .loop-test .taken) e)
     (λ c. search needs)
     (λ c. c .before .before .before .before .before .before .loop .inv .2 ∙ sym (c .before .before .before .before .before .before .before .before .before .pre .2))
-    (λ c. let e = sym (c .before .before .before .before .along .ensures) ∙ ap found (c .before .before .next .given .1) in let i = c .before .before .before .before .before .before .loop .inv in let k = length-take-le (c .before .before .before .before .before .before .loop .many) (c .before .before .before .before .before .before .loop .into) (omega (arith, i .1, i .2)) in sofar-ninth _ _ _ _ _ _ _ (i .0) (c .before .before .before .before .before .loop-test .taken) e (omega arith))
+    (λ c. let e = sym (c .before .before .before .before .along-child .ensures) ∙ ap found (c .before .before .next .given .1) in let i = c .before .before .before .before .before .before .loop .inv in let k = length-take-le (c .before .before .before .before .before .before .loop .many) (c .before .before .before .before .before .before .loop .into) (omega (arith, i .1, i .2)) in sofar-ninth _ _ _ _ _ _ _ (i .0) (c .before .before .before .before .before .loop-test .taken) e (omega arith))
     (λ c κs. search needs)
     (λ c. omega (arith, c .before .before .before .before .before .before .before .loop .inv .2, c .before .before .before .before .before .before .before .loop .inv .1))
     (λ c. omega (arith, c .before .before .before .before .before .before .before .loop .inv .2, c .before .before .before .before .before .before .before .loop .inv .1, c .before .if1 .left))
     (λ c. omega (arith, c .before .before .before .before .before .before .before .loop .inv .1))
-    (λ c. let e = sym (c .before .before .before .before .before .along .ensures) ∙ ap found (c .before .before .before .next .given .1) in let f = followed _ _ _ _ _ e in omega (arith, f .up, f .before))
+    (λ c. let e = sym (c .before .before .before .before .before .along-child .ensures) ∙ ap found (c .before .before .before .next .given .1) in let f = followed _ _ _ _ _ e in omega (arith, f .up, f .before))
     (λ c.
-    let e = sym (c .before .before .before .before .before .along .ensures) ∙ ap found (c .before .before .before .next .given .1) in
+    let e = sym (c .before .before .before .before .before .along-child .ensures) ∙ ap found (c .before .before .before .next .given .1) in
     let i = c .before .before .before .before .before .before .before .loop .inv in
     let t = c .before .before .before .before .before .before .loop-test .taken in (
       sofar-store _ _ _ _ (c .before .before .before .before .before .before .before .loop .row) _ (c .before .before .before .before .before .before .before .loop .many) _ (c .before .before .before .before .before .before .before .loop .into) (i .0) t e (omega (arith, i .2, i .1, c .before .if1 .left)) (ap (λ r. r .count) (c .load .ensures .0 (omega (arith, t, c .before .before .before .before .before .before .before .before .before .before .pre .1)))),

@@ -14,5 +14,5 @@ member-spec =
     (λ c κs. search needs)
     (λ c. search needs)
     (λ c κs. c .before .before .before .before .pre)
-    (λ c. rw (← c .before .before .before .fits2 .ensures, c .before .before .if1 .taken) (c .along .ensures))
+    (λ c. rw (← c .before .before .before .fits2 .ensures, c .before .before .if1 .taken) (c .along-child .ensures))
     (λ c. rw (← c .before .fits2 .ensures, c .if1 .left) refl))
