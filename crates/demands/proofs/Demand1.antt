@@ -28,7 +28,7 @@ length-filled : (lent : ℕ) (front : List ℕ) → length front ≤ lent → le
 unfolding filled
 length-filled lent front l = omega (arith, length-append front (zeros (lent - length front)), length-replicate {A = ℕ} (lent - length front) 0)
 
--- a forest has eight words for each token
+-- a forest has the words of a row for each token
 pub length-all-words : (f : Forest) → length (allWords f) ≡ size f * rowWords
 unfolding allWords
 length-all-words f = omega (arith, length-words (allRows f), rows-are-tokens f)

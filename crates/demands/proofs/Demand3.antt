@@ -16,7 +16,7 @@ use Rattle.format.specs.Read.{read, readInto, rowsUsed}
 use Rattle.laws.specs.Places.{At, IsCut}
 use Rattle.storage.specs.Places.{Field, Filled}
 use Rattle.storage.specs.Addresses.{Address, inPacked, inTable, call, regionOf, InRange, isInRange}
-use Rattle.storage.proofs.Places.{field-at, read-fills, filled-rows}
+use Rattle.storage.proofs.Places.{field-at, read-fills}
 use Rattle.storage.proofs.Naming.{names-at}
 use Rattle.storage.proofs.Stored.{TableOf, tableOf, as-table}
 use Rattle.storage.proofs.Storage.{of-table}
@@ -28,6 +28,7 @@ use Rattle.changed.proofs.SameRows.{same-tokens}
 use Rattle.changed.proofs.SameAnswers.{same-in-packed, same-in-table}
 use Rattle.demands.specs.Reads.{afterReading, valueAt, textAt, reads}
 use Rattle.demands.specs.Demand3.{ByFormula, inPackedArray, byRows, byColumns, Payload, Other, Unchanged, Demand3}
+use Rattle.demands.proofs.Demand2.{listed}
 
 -- ---- one message
 
@@ -134,7 +135,7 @@ module _ (m lent : List ℕ) (grammar : Grammar) (f : Forest) (accepted : readIn
   -- all of it
   holds : Demand3 m lent grammar f
   holds = record {
-    rows = filled-rows f (afterReading m lent grammar) fills;
+    rows = listed m lent grammar f accepted;
     answered-in-range = exactly m (rowsIn lent) grammar f read-is (afterReading m lent grammar) fills;
     verdicts = Addresses.verdict m (rowsIn lent) grammar f read-is (afterReading m lent grammar) fills;
     payloads = payload m (rowsIn lent) grammar f read-is (afterReading m lent grammar) fills;

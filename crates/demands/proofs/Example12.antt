@@ -39,7 +39,7 @@ message =
 
 -- It needs six rows, and all that is said of them holds; with five it is refused at its last token, the leaf `b`, whose mark is byte 10.
 -- With six it is accepted, and demand 2 holds of it.
-pub example-12 : (rowsNeeded message ≡ done 6) × RowsNeeded message new 6 × (readInto message (zeros 40) new ≡ fault noRowLeft 10)
-    × (f : Forest) × Demand2 message (zeros 48) (zeros 19) new f
+pub example-12 : (rowsNeeded message ≡ done 6) × RowsNeeded message new 6 × (readInto message (zeros 50) new ≡ fault noRowLeft 10)
+    × (f : Forest) × Demand2 message (zeros 60) (zeros 19) new f
 unfolding Conditions.if_then_else_ Conditions.among Conditions.all Outcome._>>=_ Outcome._>>_ Outcome.guard Marks.opens Marks.closes Marks.integers Marks.isInteger Marks.signedIntegers Marks.isSigned Marks.types Marks.isScalar Marks.isPlainLeaf Marks.isBoolean Marks.width Marks.leafWidth Text.isText Text.shaped Content.isContent Content.content Content.contents Content.payloadEnd Tokens.size Tokens._⊕_ Tokens.belowFirst Tokens.isKind Tokens.members Rows.rowsIn Records.memberWidth Records.totalWidth Records.atOffset Records.placed Indexes.product Indexes.countFrom Storage.endToEnd Storage.leaves Storage.byRows Storage.records Bytes.little Bytes.leadingNoops Bytes.bytes Bytes.skip Bytes.reach Bytes.byte Bytes.oneOf Integers.isNegative Integers.number Integers.integerTo Sequences.rowLeft Sequences._⨾_ Sequences.until Scalars.scalar Scalars.text Scalars.key Dimensions.plain Dimensions.shape Schemas.leaf Schemas.group Schemas.plainLeaf Schemas.enclosed Schemas.schema Schemas.kindBy Schemas.groupBy Schemas.nested Schemas.tableSchema Containers.containerKind Containers.container Containers.stored Containers.table Containers.plain Containers.items Containers.typed Containers.containerBy Read.valueBy Read.nested Read.read Read.readInto Read.readWhole Read.rowsUsed
-example-12 = (refl, panel-rows-needed message 6 refl, refl, _, demand2 message (zeros 48) (zeros 19) new _ refl)
+example-12 = (refl, panel-rows-needed message 6 refl, refl, _, demand2 message (zeros 60) (zeros 19) new _ refl)

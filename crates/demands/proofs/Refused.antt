@@ -47,17 +47,17 @@ over-limit n e = rw (length-replicate {A = ℕ} n 0, e)
 pub each-refused : Refuses (zeros (suc limit)) 0 messageTooLong 0
     × Refuses [] 0 endsTooEarly 0
     × Refuses (0x5D ∷ []) 0 notAllowed 0
-    × Refuses (0x43 ∷ 0x80 ∷ []) 8 wrongContent 1
-    × Refuses (0x53 ∷ 0x6D ∷ 0 ∷ 0 ∷ 0x20 ∷ 0 ∷ []) 8 overLimit 1
-    × Refuses (0x53 ∷ 0x69 ∷ 0xFF ∷ []) 8 wrongInteger 1
-    × Refuses (replicate 33 0x5B) 264 tooDeep 32
-    × Refuses (0x5A ∷ []) 7 noRowLeft 0
-    × Refuses (0x5A ∷ 0x5A ∷ []) 8 bytesAfter 1
-    × Refuses (0x5B ∷ 0x24 ∷ 0x7B ∷ 0x55 ∷ 1 ∷ 0x61 ∷ 0x48 ∷ []) 24 notBuilt 6
+    × Refuses (0x43 ∷ 0x80 ∷ []) 10 wrongContent 1
+    × Refuses (0x53 ∷ 0x6D ∷ 0 ∷ 0 ∷ 0x20 ∷ 0 ∷ []) 10 overLimit 1
+    × Refuses (0x53 ∷ 0x69 ∷ 0xFF ∷ []) 10 wrongInteger 1
+    × Refuses (replicate 33 0x5B) 330 tooDeep 32
+    × Refuses (0x5A ∷ []) 9 noRowLeft 0
+    × Refuses (0x5A ∷ 0x5A ∷ []) 10 bytesAfter 1
+    × Refuses (0x5B ∷ 0x24 ∷ 0x7B ∷ 0x55 ∷ 1 ∷ 0x61 ∷ 0x48 ∷ []) 30 notBuilt 6
 unfolding Conditions.if_then_else_ Conditions.among Conditions.all Outcome._>>=_ Outcome._>>_ Outcome.guard Marks.opens Marks.closes Marks.integers Marks.isInteger Marks.signedIntegers Marks.isSigned Marks.types Marks.isScalar Marks.isPlainLeaf Marks.isBoolean Marks.width Marks.leafWidth Text.isText Text.shaped Content.isContent Content.content Content.contents Content.payloadEnd Tokens.size Tokens._⊕_ Tokens.belowFirst Tokens.isKind Tokens.members Rows.rowsIn Records.memberWidth Records.totalWidth Records.atOffset Records.placed Indexes.product Indexes.countFrom Storage.endToEnd Storage.leaves Storage.byRows Storage.records Bytes.little Bytes.leadingNoops Bytes.bytes Bytes.skip Bytes.reach Bytes.byte Bytes.oneOf Integers.isNegative Integers.number Integers.integerTo Sequences.rowLeft Sequences._⨾_ Sequences.until Scalars.scalar Scalars.text Scalars.key Dimensions.plain Dimensions.shape Schemas.leaf Schemas.group Schemas.plainLeaf Schemas.enclosed Schemas.schema Schemas.kindBy Schemas.groupBy Schemas.nested Schemas.tableSchema Containers.containerKind Containers.container Containers.stored Containers.table Containers.plain Containers.items Containers.typed Containers.containerBy Read.valueBy Read.nested Read.read Read.readInto
 each-refused = (over-limit (suc limit) refl, refl, refl, refl, refl, refl, refl, refl, refl, refl)
 
 -- the house form of `[]` has four bytes: three are too few
-pub output-refused : rewriteInto (0x5B ∷ 0x5D ∷ []) (zeros 8) (zeros 3) new ≡ fault outputTooLong 0
+pub output-refused : rewriteInto (0x5B ∷ 0x5D ∷ []) (zeros 10) (zeros 3) new ≡ fault outputTooLong 0
 unfolding Conditions.if_then_else_ Conditions.among Conditions.all Outcome._>>=_ Outcome._>>_ Outcome.guard Marks.opens Marks.closes Marks.integers Marks.isInteger Marks.signedIntegers Marks.isSigned Marks.types Marks.isScalar Marks.isPlainLeaf Marks.isBoolean Marks.width Marks.leafWidth Text.isText Text.shaped Content.isContent Content.content Content.contents Content.payloadEnd Tokens.size Tokens._⊕_ Tokens.belowFirst Tokens.isKind Tokens.members Rows.rowsIn Records.memberWidth Records.totalWidth Records.atOffset Records.placed Indexes.product Indexes.countFrom Storage.endToEnd Storage.leaves Storage.byRows Storage.records Bytes.little Bytes.leadingNoops Bytes.bytes Bytes.skip Bytes.reach Bytes.byte Bytes.oneOf Integers.isNegative Integers.number Integers.integerTo Sequences.rowLeft Sequences._⨾_ Sequences.until Scalars.scalar Scalars.text Scalars.key Dimensions.plain Dimensions.shape Schemas.leaf Schemas.group Schemas.plainLeaf Schemas.enclosed Schemas.schema Schemas.kindBy Schemas.groupBy Schemas.nested Schemas.tableSchema Containers.containerKind Containers.container Containers.stored Containers.table Containers.plain Containers.items Containers.typed Containers.containerBy Read.valueBy Read.nested Read.read Read.readInto HouseForm.digits HouseForm.smallInteger HouseForm.whole HouseForm.token HouseForm.written HouseForm.house HouseForm.rewrite Integers.smallest
 output-refused = refl

@@ -53,7 +53,7 @@ heard = set ward 24 0x54
 
 -- six rows are lent
 abbrev lent : List ℕ
-lent = zeros 48
+lent = zeros 60
 
 -- the address of room 17's mark: the table's row, the leaf's, and the number of its record
 abbrev room17 : Address
@@ -73,7 +73,7 @@ answer b = done (record { kind = leaf; value = boolean b })
 -- Room 17's mark reads as false, and then as true; and all that demand 3 says of such a change holds.
 pub room-17 : (valueAt ward (afterReading ward lent new) room17 ≡ answer false) × (valueAt heard (afterReading heard lent new) room17 ≡ answer true)
     × Unchanged ward lent new room17 heard lent
-unfolding Conditions.if_then_else_ Conditions.among Conditions.all Outcome._>>=_ Outcome._>>_ Outcome.guard Marks.opens Marks.closes Marks.integers Marks.isInteger Marks.signedIntegers Marks.isSigned Marks.types Marks.isScalar Marks.isPlainLeaf Marks.isLeaf Marks.isBoolean Marks.width Marks.leafWidth Text.isText Text.shaped Content.isContent Content.content Content.contents Content.payloadEnd Tokens.size Tokens._⊕_ Tokens.belowFirst Tokens.isKind Rows.layout Rows.word Rows.rowAt Rows.rowsIn Rows.rowOf Rows.rows Rows.wordsOf Rows.allRows Rows.allWords Rows.filled Records.memberWidth Records.totalWidth Records.atOffset Records.placed Indexes.product Indexes.inRange Indexes.countFrom Indexes.lastNumber Indexes.numberIn Storage.endToEnd Storage.leaves Storage.byRows Storage.records Bytes.little Bytes.leadingNoops Bytes.within Bytes.bytes Bytes.skip Bytes.reach Bytes.byte Bytes.oneOf Integers.isNegative Integers.number Integers.integerTo Sequences.rowLeft Sequences._⨾_ Sequences.until Scalars.key Dimensions.plain Dimensions.shape Schemas.leaf Schemas.group Schemas.plainLeaf Schemas.enclosed Schemas.schema Schemas.kindBy Schemas.groupBy Schemas.nested Schemas.tableSchema Containers.stored Containers.table Containers.typed Containers.containerBy Read.valueBy Read.nested Read.read Read.readInto Read.wordsAfter Addresses.isA Addresses.isTable Addresses.isKey Addresses.isLeafRow Addresses.isSchema Addresses.isMember Addresses.along Addresses.dimensions Addresses.seek Addresses.inside Addresses.tableSlot Values.valueOf Values.scalarAt Values.valueInTable Named.call Reads.valueAt
+unfolding Conditions.if_then_else_ Conditions.among Conditions.all Outcome._>>=_ Outcome._>>_ Outcome.guard Marks.opens Marks.closes Marks.integers Marks.isInteger Marks.signedIntegers Marks.isSigned Marks.types Marks.isScalar Marks.isPlainLeaf Marks.isLeaf Marks.isBoolean Marks.width Marks.leafWidth Text.isText Text.shaped Content.isContent Content.content Content.contents Content.payloadEnd Tokens.size Tokens._⊕_ Tokens.belowFirst Tokens.isKind Rows.layout Rows.word Rows.rowAt Rows.rowsIn Rows.heldBy Rows.rowOf Rows.rows Rows.wordsOf Rows.allRows Rows.allWords Rows.filled Records.memberWidth Records.totalWidth Records.atOffset Records.placed Indexes.product Indexes.inRange Indexes.countFrom Indexes.lastNumber Indexes.numberIn Storage.endToEnd Storage.leaves Storage.byRows Storage.records Bytes.little Bytes.leadingNoops Bytes.within Bytes.bytes Bytes.skip Bytes.reach Bytes.byte Bytes.oneOf Integers.isNegative Integers.number Integers.integerTo Sequences.rowLeft Sequences._⨾_ Sequences.until Scalars.key Dimensions.plain Dimensions.shape Schemas.leaf Schemas.group Schemas.plainLeaf Schemas.enclosed Schemas.schema Schemas.kindBy Schemas.groupBy Schemas.nested Schemas.tableSchema Containers.stored Containers.table Containers.typed Containers.containerBy Read.valueBy Read.nested Read.read Read.readInto Read.wordsAfter Addresses.isA Addresses.isTable Addresses.isKey Addresses.isLeafRow Addresses.isSchema Addresses.isMember Addresses.childOf Addresses.along Addresses.dimensions Addresses.seek Addresses.inside Addresses.tableSlot Values.valueOf Values.scalarAt Values.valueInTable Named.call Reads.valueAt
 room-17 = (
   refl,
   refl,

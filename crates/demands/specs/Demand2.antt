@@ -2,9 +2,10 @@
 --
 -- In plain words. The reader accepts exactly what the rules allow, and lists it as they say. The rules are one definition, which goes
 -- through the message from its first byte to its last; the reader answers what it answers, for every message. What is listed is this: a row
--- for each token, in the order of the message, and nothing else. Each row says what its token is and where it stands; a token begins after
--- the one before it and inside the message, and its payload lies inside the message too. All further words are zero. Whether a message is
--- accepted, and as what, is its own affair: another table that has the rows for it is filled alike.
+-- for each token, in the order of the message, and nothing else. Each row says what its token is and where it stands, and names the row of
+-- the token that holds it; a token begins after the one before it and inside the message, and its payload lies inside the message too. All
+-- further words are zero. Whether a message is accepted, and as what, is its own affair: another table that has the rows for it is filled
+-- alike.
 --
 -- The house form keeps the meaning. Rewriting an accepted message gives its house form, if the output has room for it. That is a message
 -- that is accepted by the same rules, in as many rows, and means the same; rewriting it again changes nothing. Two messages mean the same
@@ -24,12 +25,13 @@ use Rattle.format.specs.Outcome.{fault, done}
 use Rattle.format.specs.Limits.{limit}
 use Rattle.format.specs.Refusals.{outputTooLong}
 use Rattle.format.specs.Tokens.{Kind, leaf, schemaRecord, fixedArray, Token, Forest, size}
-use Rattle.format.specs.Rows.{rowWords, rowAt, rowsIn, rowOf, allRows, allWords, zeros, filled}
+use Rattle.format.specs.Rows.{Ancestry, rowWords, rowAt, rowsIn, rowOf, allRows, allWords, zeros, filled}
 use Rattle.format.specs.Read.{readInto, rowsUsed}
 use Rattle.format.specs.HouseForm.{house}
 use Rattle.format.specs.SameMeaning.{SameMeaning}
 use Rattle.laws.specs.Places.{At}
 use Rattle.laws.specs.Rising.{Rising}
+use Rattle.storage.specs.Places.{Top}
 use Rattle.meaning.specs.Rewriting.{Rewritten, InHouseForm}
 use Rattle.demands.specs.Reads.{afterReading}
 use Rattle.demands.specs.Rewrites.{rewriteInto, wordsAfterRewriting, outputAfterRewriting}
@@ -44,8 +46,13 @@ InRecord kind = (kind ≡ leaf) ⊎ ((kind ≡ schemaRecord) ⊎ (kind ≡ fixed
 pub record Listed (m ws : List ℕ) (f : Forest) : Type 0 where
   -- the rows, and then zeros
   pub words : ws ≡ allWords f ++ zeros (length ws - size f * rowWords)
-  -- at each token's row stand its words
-  pub rows : (row : ℕ) (t : Token) (below : Forest) → At 0 f row t below → rowAt ws row ≡ rowOf t (suc row + size below)
+  -- at each token's row stand its words, among them those of some ancestry
+  pub rows : (row : ℕ) (t : Token) (below : Forest) → At 0 f row t below → (a : Ancestry) × (rowAt ws row ≡ rowOf t (suc row + size below) a)
+  -- which is this: the outermost token names no parent, and its depth is 0
+  pub outermost-row : (row : ℕ) (t : Token) (below : Forest) → Top 0 f row t below → (rowAt ws row .parent ≡ 0) × (rowAt ws row .depth ≡ 0)
+  -- and a token that another holds names that one's row plus one, and is one deeper
+  pub held-row : (row : ℕ) (t : Token) (below : Forest) → At 0 f row t below → (k : ℕ) (u : Token) (v : Forest) → Top (suc row) below k u v
+      → (rowAt ws k .parent ≡ row + 1) × (rowAt ws k .depth ≡ rowAt ws row .depth + 1)
   -- and every row used is a token's
   pub tokens : (row : ℕ) → row < size f → (t : Token) × (below : Forest) × At 0 f row t below
   -- the first bytes of the rows rise, inside the message

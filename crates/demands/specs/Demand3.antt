@@ -24,7 +24,6 @@ use Rattle.format.specs.Grammars.{Grammar}
 use Rattle.format.specs.Outcome.{done}
 use Rattle.format.specs.Marks.{'[', left-brace}
 use Rattle.format.specs.Tokens.{Token, packed, table, Forest, node, size}
-use Rattle.format.specs.Rows.{rowAt, rowOf}
 use Rattle.format.specs.Indexes.{numberIn}
 use Rattle.format.specs.Storage.{Slot, memberRow, dimensionsOf, storage}
 use Rattle.format.specs.Addresses.{Region}
@@ -38,6 +37,7 @@ use Rattle.storage.specs.Regions.{InOne}
 use Rattle.storage.specs.Verdicts.{Verdict}
 use Rattle.changed.specs.Alike.{Alike}
 use Rattle.demands.specs.Reads.{afterReading, reads}
+use Rattle.demands.specs.Demand2.{Listed}
 
 -- ---- the formulas
 
@@ -99,8 +99,8 @@ pub record Unchanged (m lent : List ℕ) (grammar : Grammar) (a : Address) (m′
 
 -- of a message that was read into lent words and accepted, with these tokens
 pub record Demand3 (m lent : List ℕ) (grammar : Grammar) (f : Forest) : Type 0 where
-  -- the rows are those of demand 2: at each token's row stand its words
-  pub rows : (row : ℕ) (t : Token) (below : Forest) → At 0 f row t below → rowAt (afterReading m lent grammar) row ≡ rowOf t (suc row + size below)
+  -- the rows are those of demand 2
+  pub rows : Listed m (afterReading m lent grammar) f
   -- an address is answered exactly when in range
   pub answered-in-range : (a : Address) → InRange f a ↔ ((slot : Region) × (call (afterReading m lent grammar) (length m) a ≡ done slot))
   -- with the slot that cutting the payload in storage order gives; else it is refused, by 12 for its rows, then by 10 for its indexes

@@ -9,10 +9,10 @@ use lib.Dec.{eqb}
 use borrow.Author.Tests.{eqb-true}
 use Rattle.format.specs.Conditions.{among}
 use Rattle.format.specs.Tokens.{Token, kindNumber, table, Forest, none, node, size}
-use Rattle.format.specs.Rows.{Row, rowAt, rowOf}
+use Rattle.format.specs.Rows.{Row, Ancestry, heldBy, rowAt, rowOf}
 use Rattle.format.specs.HouseForm.{whole, token, written, house}
-use Rattle.laws.specs.Places.{here, under, later}
-use Rattle.storage.proofs.Places.{Rowed}
+use Rattle.storage.specs.Places.{Rowed, noRows, itsRows}
+use Rattle.storage.proofs.Places.{rowed-own, rowed-under, rowed-later}
 use Rattle.writer.specs.Pieces.{isSingle, single, head, middle, tail}
 use Rattle.forests.specs.Formed.{Formed, noToken, aSingle, aNested, aTable}
 use Rattle.forests.specs.Held.{Held, HeldToken}
@@ -38,10 +38,8 @@ formed-rest (aSingle s a) = a
 formed-rest (aNested n b a) = a
 formed-rest (aTable n s d a) = a
 
-rowed-first : (ws : List ℕ) (n : ℕ) (t : Token) (below after : Forest) → Rowed ws n (node t below after) → Rowed ws n (node t below none)
-rowed-first ws n t below after r k u v here = r k u v here
-rowed-first ws n t below after r k u v (under x) = r k u v (under x)
-rowed-first ws n t below after r k u v (later x) = elim x [ ]
+rowed-first : {ws : List ℕ} {n : ℕ} {a : Ancestry} {t : Token} {below after : Forest} → Rowed ws n a (node t below after) → Rowed ws n a (node t below none)
+rowed-first (itsRows o u l) = itsRows o u noRows
 
 -- the first token's row, and what is left
 pub record Step (ws : List ℕ) (row link stop : ℕ) (r : Row) (f : Forest) : Type 0 where
@@ -54,12 +52,12 @@ pub record Step (ws : List ℕ) (row link stop : ℕ) (r : Row) (f : Forest) : T
 pub held-step : {ws : List ℕ} {row stop : ℕ} (h : Held ws row stop) (r : Row) (link : ℕ) → row < stop → r ≡ rowAt ws row → link ≡ r .link
     → Step ws row link stop r (h .tokens)
 unfolding size rowOf
-held-step {ws} {row} {stop} h r link l e q = go (h .tokens) (h .formed) (h .rowed) (h .ends)
+held-step {ws} {row} {stop} h r link l e q = go (h .tokens) (h .formed) (h .ancestry) (h .rowed) (h .ends)
   where
-    go : (f : Forest) → Formed f → Rowed ws row f → stop ≡ row + size f → Step ws row link stop r f
-    go none d w n = absurd (omega arith)
-    go (node t below after) d w n =
-        let is : r ≡ rowOf t (suc row + size below) = e ∙ w row t below here in
+    go : (f : Forest) → Formed f → (a : Ancestry) → Rowed ws row a f → stop ≡ row + size f → Step ws row link stop r f
+    go none d a w n = absurd (omega arith)
+    go (node t below after) d a w n =
+        let is : r ≡ rowOf t (suc row + size below) a = e ∙ rowed-own w in
         let at : link ≡ suc row + size below = q ∙ ap (λ (x : Row). x .link) is in
         let i = h .inside in
         record {
@@ -67,15 +65,17 @@ held-step {ws} {row} {stop} h r link l e q = go (h .tokens) (h .formed) (h .rowe
             token = t;
             below = below;
             formed = formed-first d;
-            rowed = rowed-first ws row t below after w;
-            row-is = is ∙ ap (rowOf t) (sym at);
+            ancestry = a;
+            rowed = rowed-first w;
+            row-is = is ∙ ap (λ k. rowOf t k a) (sym at);
             ends = at;
             inside = omega arith;
           };
           rest = record {
             tokens = after;
             formed = formed-rest d;
-            rowed = rw at (λ k u v x. w k u v (later x));
+            ancestry = a;
+            rowed = rw at (rowed-later w);
             ends = omega arith;
             inside = i;
           };
@@ -98,33 +98,33 @@ pub record Outer (ws : List ℕ) (row split link : ℕ) (r : Row) (t : Token) (b
   pub form : (m : List ℕ) → token m (t .kind) t (written m below) ≡ head r ++ house m (schema .tokens) ++ middle r ++ house m (dimensions .tokens) ++ tail m r
 
 module _ (ws : List ℕ) (row link : ℕ) (r : Row) where
-  same-single : (t : Token) {b c : Bool} → r ≡ rowOf t link → isSingle (r .kind) ≡ b → isSingle (kindNumber (t .kind)) ≡ c → b ≡ c
+  same-single : (t : Token) (a : Ancestry) {b c : Bool} → r ≡ rowOf t link a → isSingle (r .kind) ≡ b → isSingle (kindNumber (t .kind)) ≡ c → b ≡ c
   unfolding rowOf
-  same-single t q e f = sym e ∙ ap (λ (x : Row). isSingle (x .kind)) q ∙ f
+  same-single t a q e f = sym e ∙ ap (λ (x : Row). isSingle (x .kind)) q ∙ f
 
-  same-table : (t : Token) {b c : Bool} → r ≡ rowOf t link → eqb (r .kind) (kindNumber table) ≡ b → eqb (kindNumber (t .kind)) (kindNumber table) ≡ c → b ≡ c
+  same-table : (t : Token) (a : Ancestry) {b c : Bool} → r ≡ rowOf t link a → eqb (r .kind) (kindNumber table) ≡ b → eqb (kindNumber (t .kind)) (kindNumber table) ≡ c → b ≡ c
   unfolding rowOf
-  same-table t q e f = sym e ∙ ap (λ (x : Row). eqb (x .kind) (kindNumber table)) q ∙ f
+  same-table t a q e f = sym e ∙ ap (λ (x : Row). eqb (x .kind) (kindNumber table)) q ∙ f
 
   -- whole
   pub token-single : (h : HeldToken ws row link r) → isSingle (r .kind) ≡ true → (m : List ℕ) → token m (h .token .kind) (h .token) (written m (h .below)) ≡ single m r
-  token-single h e m = go (h .token) (h .below) (h .formed) (h .row-is)
+  token-single h e m = go (h .token) (h .below) (h .formed) (h .ancestry) (h .row-is)
     where
-      go : (t : Token) (below : Forest) → Formed (node t below none) → r ≡ rowOf t link → token m (t .kind) t (written m below) ≡ single m r
-      go t none (aSingle s a) q = s .form m link ∙ ap (single m) (sym q)
-      go t below (aNested n b a) q = absurd (true≢false (same-single t q e (n .not-alone)))
-      go t below (aTable n s d a) q = absurd (true≢false (same-single t q e (n .not-alone)))
+      go : (t : Token) (below : Forest) → Formed (node t below none) → (p : Ancestry) → r ≡ rowOf t link p → token m (t .kind) t (written m below) ≡ single m r
+      go t none (aSingle s a) p q = s .form m link p ∙ ap (single m) (sym q)
+      go t below (aNested n b a) p q = absurd (true≢false (same-single t p q e (n .not-alone)))
+      go t below (aTable n s d a) p q = absurd (true≢false (same-single t p q e (n .not-alone)))
 
   pub token-nested : (h : HeldToken ws row link r) → isSingle (r .kind) ≡ false → eqb (r .kind) (kindNumber table) ≡ false → Inner ws row link r (h .token) (h .below)
-  token-nested h e f = go (h .token) (h .below) (h .formed) (h .row-is) (h .rowed) (h .ends)
+  token-nested h e f = go (h .token) (h .below) (h .formed) (h .ancestry) (h .row-is) (h .rowed) (h .ends)
     where
-      go : (t : Token) (below : Forest) → Formed (node t below none) → r ≡ rowOf t link → Rowed ws row (node t below none) → link ≡ suc row + size below → Inner ws row link r t below
-      go t none (aSingle s a) q w l = absurd (false≢true (same-single t q e (s .alone)))
-      go t below (aNested n b a) q w l = record {
-        held = record { tokens = below; formed = b; rowed = rw (add-one row) (λ k u v x. w k u v (under x)); ends = omega arith; inside = h .inside };
-        form = λ m. n .form m link ∙ rw (← q);
+      go : (t : Token) (below : Forest) → Formed (node t below none) → (p : Ancestry) → r ≡ rowOf t link p → Rowed ws row p (node t below none) → link ≡ suc row + size below → Inner ws row link r t below
+      go t none (aSingle s a) p q w l = absurd (false≢true (same-single t p q e (s .alone)))
+      go t below (aNested n b a) p q w l = record {
+        held = record { tokens = below; formed = b; ancestry = heldBy row p; rowed = rw (add-one row) (rowed-under w); ends = omega arith; inside = h .inside };
+        form = λ m. n .form m link p ∙ rw (← q);
       }
-      go t below (aTable n s d a) q w l = absurd (false≢true (same-table t q f (n .is-table)))
+      go t below (aTable n s d a) p q w l = absurd (false≢true (same-table t p q f (n .is-table)))
 
   table-below : (k : ℕ) → eqb k (kindNumber table) ≡ true → isSingle k ≡ false
   unfolding isSingle among
@@ -133,17 +133,17 @@ module _ (ws : List ℕ) (row link : ℕ) (r : Row) where
   pub token-table : (h : HeldToken ws row link r) → eqb (r .kind) (kindNumber table) ≡ true → (split : ℕ) → split ≡ rowAt ws (row + 1) .link
       → Outer ws row split link r (h .token) (h .below)
   unfolding rowOf size
-  token-table h f split p = go (h .token) (h .below) (h .formed) (h .row-is) (h .rowed) (h .ends)
+  token-table h f split p = go (h .token) (h .below) (h .formed) (h .ancestry) (h .row-is) (h .rowed) (h .ends)
     where
-      go : (t : Token) (below : Forest) → Formed (node t below none) → r ≡ rowOf t link → Rowed ws row (node t below none) → link ≡ suc row + size below → Outer ws row split link r t below
-      go t none (aSingle s a) q w l = absurd (false≢true (same-single t q (table-below (r .kind) f) (s .alone)))
-      go t below (aNested n b a) q w l = absurd (true≢false (same-table t q f (n .no-table)))
-      go t (node s fields dims) (aTable n c d a) q w l =
-          let x = w (suc row) s fields (under here) in
+      go : (t : Token) (below : Forest) → Formed (node t below none) → (b : Ancestry) → r ≡ rowOf t link b → Rowed ws row b (node t below none) → link ≡ suc row + size below → Outer ws row split link r t below
+      go t none (aSingle s a) b q w l = absurd (false≢true (same-single t b q (table-below (r .kind) f) (s .alone)))
+      go t below (aNested n c a) b q w l = absurd (true≢false (same-table t b q f (n .no-table)))
+      go t (node s fields dims) (aTable n c d a) b q w l =
+          let x = rowed-own (rowed-under w) in
           let at : split ≡ suc (suc row) + size fields = p ∙ rw (add-one row) (ap (λ (y : Row). y .link) x) in
           let i = h .inside in
           record {
-            schema = record { tokens = node s fields none; formed = c; rowed = rw (add-one row) (rowed-first ws (suc row) s fields dims (λ k u v y. w k u v (under y))); ends = omega arith; inside = omega arith };
-            dimensions = record { tokens = dims; formed = d; rowed = rw at (λ k u v y. w k u v (under (later y))); ends = omega arith; inside = i };
-            form = λ m. n .form m link ∙ rw (← q);
+            schema = record { tokens = node s fields none; formed = c; ancestry = heldBy row b; rowed = rw (add-one row) (rowed-first (rowed-under w)); ends = omega arith; inside = omega arith };
+            dimensions = record { tokens = dims; formed = d; ancestry = heldBy row b; rowed = rw at (rowed-later (rowed-under w)); ends = omega arith; inside = i };
+            form = λ m. n .form m link b ∙ rw (← q);
           }

@@ -5,15 +5,16 @@ use mathlib.Core.List.{List}
 use lib.ListN.{length}
 use Rattle.format.specs.Limits.{limit}
 use Rattle.format.specs.Tokens.{Token, Forest, none, node, size}
-use Rattle.format.specs.Rows.{Row, rowsIn, rowOf}
-use Rattle.storage.proofs.Places.{Rowed}
+use Rattle.format.specs.Rows.{Row, Ancestry, rowsIn, rowOf}
+use Rattle.storage.specs.Places.{Rowed}
 use Rattle.forests.specs.Formed.{Formed}
 
 -- the rows from `first` up to `stop` are those of some tokens
 pub record Held (ws : List ℕ) (first stop : ℕ) : Type 0 where
   pub tokens : Forest
   pub formed : Formed tokens
-  pub rowed : Rowed ws first tokens
+  pub ancestry : Ancestry
+  pub rowed : Rowed ws first ancestry tokens
   pub ends : stop ≡ first + size tokens
   pub inside : stop ≤ rowsIn ws
 
@@ -22,8 +23,9 @@ pub record HeldToken (ws : List ℕ) (row link : ℕ) (r : Row) : Type 0 where
   pub token : Token
   pub below : Forest
   pub formed : Formed (node token below none)
-  pub rowed : Rowed ws row (node token below none)
-  pub row-is : r ≡ rowOf token link
+  pub ancestry : Ancestry
+  pub rowed : Rowed ws row ancestry (node token below none)
+  pub row-is : r ≡ rowOf token link ancestry
   pub ends : link ≡ suc row + size below
   pub inside : link ≤ rowsIn ws
 

@@ -1,5 +1,6 @@
 // How many records a table has, and where its payload starts.
 use format::limits::LIMIT;
+use rows::OUTERMOST;
 use shapes::counts::Shaped;
 use shapes::counts::shape;
 ghost use Prim.Native.Nat.{_+_, _≤_};
@@ -15,7 +16,7 @@ pub struct Count {
     pub many: usize,
 }
 
-// The count that begins at `at`, read with no table; none where none can be read.
+// The count that begins at `at`, read with no table, so that any ancestry will do; none where none can be read.
 pub fn count_at(message: &[u8], at: usize) -> Count
     ensures is { λ r. ⌜ CountRead (now (message .entry)) at r ⌝ }
     ensures bounds { λ r. ⌜ (r .start ≤ limit) × (r .many ≤ limit + 1) ⌝ }
@@ -29,7 +30,7 @@ pub fn count_at(message: &[u8], at: usize) -> Count
         return off;
     }
     let mut none = [0u32; 0];
-    match shape(message, &mut none, end, false, at, 0) {
+    match shape(message, &mut none, end, false, at, 0, OUTERMOST) {
         Shaped::Refused(_, _) => off,
         Shaped::Shape {
             next,

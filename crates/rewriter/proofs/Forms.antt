@@ -72,15 +72,15 @@ extension-byte = omega arith
 -- a dimension is written without its mark
 dimension-form : (t : Token) → t .kind ≡ dimension → Single t
 unfolding isSingle among token single rowOf if_then_else_
-dimension-form t e = record { alone = rw e; form = λ m link. rw e }
+dimension-form t e = record { alone = rw e; form = λ m link ancestry. rw e }
 
 single-form : (t : Token) (k : Kind) → t .kind ≡ k → isSingle (kindNumber k) ≡ true → t .mark < 256 → Single t
 unfolding isSingle among token payloadOf single payloadAt rowOf if_then_else_
-single-form t scalar e s b = record { alone = rw e s; form = λ m link. rw (e, letter-is (t .mark) b) }
-single-form t text e s b = record { alone = rw e s; form = λ m link. rw (e, letter-is (t .mark) b) }
-single-form t highPrecision e s b = record { alone = rw e s; form = λ m link. rw (e, letter-is (t .mark) b) }
-single-form t key e s b = record { alone = rw e s; form = λ m link. rw e }
-single-form t leaf e s b = record { alone = rw e s; form = λ m link. rw (e, letter-is (t .mark) b) }
+single-form t scalar e s b = record { alone = rw e s; form = λ m link ancestry. rw (e, letter-is (t .mark) b) }
+single-form t text e s b = record { alone = rw e s; form = λ m link ancestry. rw (e, letter-is (t .mark) b) }
+single-form t highPrecision e s b = record { alone = rw e s; form = λ m link ancestry. rw (e, letter-is (t .mark) b) }
+single-form t key e s b = record { alone = rw e s; form = λ m link ancestry. rw e }
+single-form t leaf e s b = record { alone = rw e s; form = λ m link ancestry. rw (e, letter-is (t .mark) b) }
 single-form t dimension e s b = dimension-form t e
 single-form t extension e s b = absurd (false≢true s)
 single-form t array e s b = absurd (false≢true s)
@@ -99,18 +99,18 @@ open-byte brace = refl
 
 list-form : (o : Opening) (t : Token) (below : Forest) → t .kind ≡ Containers.containerKind o → t .mark ≡ opens o → Around t below
 unfolding Containers.containerKind isSingle isList among token head tail rowOf house opens if_then_else_
-list-form bracket t below e q = record { not-alone = rw e; no-table = rw e; form = λ m link. rw (e, q, open-byte bracket) (sym (append-nil (opens bracket ∷ '#' ∷ smallInteger (t .count) ++ house m below))) }
-list-form brace t below e q = record { not-alone = rw e; no-table = rw e; form = λ m link. rw (e, q, open-byte brace) (sym (append-nil (opens brace ∷ '#' ∷ smallInteger (t .count) ++ house m below))) }
+list-form bracket t below e q = record { not-alone = rw e; no-table = rw e; form = λ m link ancestry. rw (e, q, open-byte bracket) (sym (append-nil (opens bracket ∷ '#' ∷ smallInteger (t .count) ++ house m below))) }
+list-form brace t below e q = record { not-alone = rw e; no-table = rw e; form = λ m link ancestry. rw (e, q, open-byte brace) (sym (append-nil (opens brace ∷ '#' ∷ smallInteger (t .count) ++ house m below))) }
 
 group-form : (o : Opening) (t : Token) (below : Forest) → t .kind ≡ groupKind o → t .mark ≡ opens o → Around t below
 unfolding isSingle isList among token head tail rowOf house opens closes if_then_else_
-group-form bracket t below e q = record { not-alone = rw e; no-table = rw e; form = λ m link. rw (e, q, open-byte bracket) }
-group-form brace t below e q = record { not-alone = rw e; no-table = rw e; form = λ m link. rw (e, q, open-byte brace) }
+group-form bracket t below e q = record { not-alone = rw e; no-table = rw e; form = λ m link ancestry. rw (e, q, open-byte bracket) }
+group-form brace t below e q = record { not-alone = rw e; no-table = rw e; form = λ m link ancestry. rw (e, q, open-byte brace) }
 
 -- an extension has none below it, and is written around them all the same
 extension-form : (t : Token) → t .kind ≡ extension → t .mark < 256 → Around t none
 unfolding isSingle isList among token payloadOf head tail payloadAt rowOf house written whole if_then_else_
-extension-form t e b = record { not-alone = rw e; no-table = rw e; form = λ m link. rw (e, letter-is (t .mark) b) (ap (λ l. t .mark ∷ l) (append-assoc (idBytes m (t .first)) (smallInteger (t .extent)) (payloadOf m t))) }
+extension-form t e b = record { not-alone = rw e; no-table = rw e; form = λ m link ancestry. rw (e, letter-is (t .mark) b) (ap (λ l. t .mark ∷ l) (append-assoc (idBytes m (t .first)) (smallInteger (t .extent)) (payloadOf m t))) }
 
 -- a shape is what stands before its dimensions, these, and what stands after them
 in-brackets : (b : Bool) (dims : List ℕ)
@@ -132,7 +132,7 @@ unfolding isSingle isList among token payloadOf head tail payloadAt rowOf house 
 packed-form {below = below} t e b s = record {
   not-alone = rw e;
   no-table = rw e;
-  form = λ m link. rw (e, letter-is (t .mark) b)
+  form = λ m link ancestry. rw (e, letter-is (t .mark) b)
       (ap (λ l. '[' ∷ '$' ∷ t .mark ∷ '#' ∷ l ++ payloadOf m t) (shape-parts s m) ∙ regroup ('[' ∷ '$' ∷ t .mark ∷ '#' ∷ []) (shapeStart (t .order) (t .count)) (house m below) (shapeEnd (t .order)) (payloadOf m t));
 }
 
@@ -141,7 +141,7 @@ unfolding isSingle isList among token tableForm payloadOf head middle tail paylo
 table-form {dims = dims} t s fields e b d = record {
   not-alone = rw e;
   is-table = rw e;
-  form = λ m link.
+  form = λ m link ancestry.
       let first = token m (s .kind) s (written m fields) in
       rw (e, letter-is (t .mark) b, append-nil first)
       (ap (λ l. t .mark ∷ '$' ∷ first ++ '#' ∷ l ++ payloadOf m t) (shape-parts d m) ∙ regroup (t .mark ∷ '$' ∷ first) ('#' ∷ shapeStart (t .order) (t .count)) (house m dims) (shapeEnd (t .order)) (payloadOf m t));

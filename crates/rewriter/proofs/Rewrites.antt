@@ -10,7 +10,7 @@ use borrow.Author.Tests.{leb-true}
 use Rattle.format.specs.Outcome.{Outcome, fault, done, _>>=_, _>>_, guard}
 use Rattle.format.specs.Refusals.{outputTooLong}
 use Rattle.format.specs.Tokens.{Forest, size}
-use Rattle.format.specs.Rows.{rowsIn, zeros, filled}
+use Rattle.format.specs.Rows.{outermost, rowsIn, zeros, filled}
 use Rattle.format.specs.Read.{read, readInto, rowsUsed, wordsAfter}
 use Rattle.format.specs.Grammars.{Grammar}
 use Rattle.format.specs.HouseForm.{house, rewrite, bytesWritten, outputAfter, rewriteWordsAfter}
@@ -54,6 +54,7 @@ module _ (m ws : List ℕ) (grammar : Grammar) where
       record {
         tokens = f;
         formed = accepted-formed (h .1);
+        ancestry = outermost;
         rowed = filled-rows f after full;
         ends = let u = a .rows-used in omega arith;
         inside = let u = a .rows-used in omega (arith, filled-enough f after full);

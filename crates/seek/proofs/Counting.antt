@@ -10,7 +10,7 @@ use Rattle.format.specs.Outcome.{done}
 use Rattle.format.specs.Marks.{Opening, bracket, brace}
 use Rattle.format.specs.Tokens.{Kind, Token, key as keyKind, table as tableKind, isKind, Forest, none, node, size, _⊕_}
 use Rattle.format.specs.Records.{atOffset, placed}
-use Rattle.format.specs.Rows.{Row, rowOf, rows, allRows}
+use Rattle.format.specs.Rows.{Row, Ancestry, outermost, heldBy, rowOf, rows, allRows}
 use Rattle.format.specs.Sequences.{Reader, until, spaced}
 use Rattle.format.specs.Containers.{container, stored, table, counted, plain, typed, containerBy, items}
 use Rattle.format.specs.Read.{nested, read, readWhole}
@@ -107,26 +107,26 @@ ofKind-append kind n (r ∷ l) k =
     simp (ofKind-append kind (suc n) l k, e, append-assoc)
 
 -- those of the rows below a token, and of those after it
-rest-of : (n : ℕ) (below after : Forest)
-    → ofKind tableKind (suc n) (rows (suc n) below ++ rows (suc n + size below) after)
-    ≡ ofKind tableKind (suc n) (rows (suc n) below) ++ ofKind tableKind (suc n + size below) (rows (suc n + size below) after)
-rest-of n below after = ofKind-append tableKind (suc n) (rows (suc n) below) _ ∙ rw (length-rows (suc n) below)
+rest-of : (n : ℕ) (a b : Ancestry) (below after : Forest)
+    → ofKind tableKind (suc n) (rows (suc n) a below ++ rows (suc n + size below) b after)
+    ≡ ofKind tableKind (suc n) (rows (suc n) a below) ++ ofKind tableKind (suc n + size below) (rows (suc n + size below) b after)
+rest-of n a b below after = ofKind-append tableKind (suc n) (rows (suc n) a below) _ ∙ rw (length-rows (suc n) a below)
 
-none-of-kind : {f : Forest} → Tableless f → (n : ℕ) → ofKind tableKind n (rows n f) ≡ []
+none-of-kind : {f : Forest} → Tableless f → (n : ℕ) (a : Ancestry) → ofKind tableKind n (rows n a f) ≡ []
 unfolding rows rowOf ofKind isKind if_then_else_
-none-of-kind empty n = refl
-none-of-kind (token {below = below} {after = after} e u r) n =
-    rw (e, rest-of n below after, none-of-kind u (suc n), none-of-kind r (suc n + size below))
+none-of-kind empty n a = refl
+none-of-kind (token {below = below} {after = after} e u r) n a =
+    rw (e, rest-of n (heldBy n a) a below after, none-of-kind u (suc n) (heldBy n a), none-of-kind r (suc n + size below) a)
 
-counted-rows : {f : Forest} → Flat f → (n : ℕ) → map (λ t. t .row) (tables n f) ≡ ofKind tableKind n (rows n f)
+counted-rows : {f : Forest} → Flat f → (n : ℕ) (a : Ancestry) → map (λ t. t .row) (tables n f) ≡ ofKind tableKind n (rows n a f)
 unfolding tables rows rowOf ofKind isKind if_then_else_
-counted-rows nothing n = refl
-counted-rows (over {below = below} {after = after} e u r) n =
-    rw (e, rest-of n below after, ← counted-rows u (suc n), ← counted-rows r (suc n + size below)) (map-append (λ t. t .row) (tables (suc n) below) _)
-counted-rows (aTable {below = below} {after = after} e u r) n =
-    rw (e, rest-of n below after, none-of-kind u (suc n), ← counted-rows r (suc n + size below))
+counted-rows nothing n a = refl
+counted-rows (over {below = below} {after = after} e u r) n a =
+    rw (e, rest-of n (heldBy n a) a below after, ← counted-rows u (suc n) (heldBy n a), ← counted-rows r (suc n + size below) a) (map-append (λ t. t .row) (tables (suc n) below) _)
+counted-rows (aTable {below = below} {after = after} e u r) n a =
+    rw (e, rest-of n (heldBy n a) a below after, none-of-kind u (suc n) (heldBy n a), ← counted-rows r (suc n + size below) a)
 
 -- The tables of an accepted message are its rows of kind 8, in their order.
 pub tables-are-rows : (m : List ℕ) (grammar : Grammar) (f : Forest) → readWhole m grammar ≡ done f → map (λ t. t .row) (tables 0 f) ≡ ofKind tableKind 0 (allRows f)
 unfolding readWhole allRows
-tables-are-rows m grammar f e = counted-rows (of-done f (read-flat m (length m) grammar) e) 0
+tables-are-rows m grammar f e = counted-rows (of-done f (read-flat m (length m) grammar) e) 0 outermost

@@ -10,6 +10,7 @@ use Rattle.format.specs.Conditions.{if_then_else_}
 use Rattle.format.specs.Outcome.{Outcome, Parsed, fault, done, _>>=_}
 use Rattle.format.specs.Marks.{Opening, bracket, brace}
 use Rattle.format.specs.Tokens.{Forest, none, size, _⊕_}
+use Rattle.format.specs.Rows.{Ancestry}
 use Rattle.format.specs.Bytes.{byte, skip}
 use Rattle.format.specs.Sequences.{Reader, _⨾_, spaced}
 use Rattle.format.specs.Scalars.{key}
@@ -86,19 +87,19 @@ module _ (m : List ℕ) (grammar : Grammar) (opening : Opening) (at row : ℕ) w
   member nested = items m (length m) opening (valueBy m (length m) grammar nested) at row
 
   -- it is read whole
-  pub member-past : (next row′ left : ℕ) (before after : List ℕ) → ((nested : Opening → Reader) → Laid (member nested) row 1 before after next row′)
+  pub member-past : (next row′ left : ℕ) (ancestry : Ancestry) (before after : List ℕ) → ((nested : Opening → Reader) → Laid (member nested) row 1 ancestry before after next row′)
       → (nested : Opening → Reader) → Walks (Past next row′ left) m row left (member nested)
-  member-past next row′ left before after h nested f end e =
+  member-past next row′ left ancestry before after h nested f end e =
       let l = h never in
       let q = parts (sym (items-same m (length m) grammar nested opening at row _ (l .read)) ∙ e) in
       let t = of-done (l .forest, next) (items-kept m (length m) grammar tableless-kept never (λ o at row. refused λ _. tt) opening at row) (l .read) in
       rw (← q .0, ← q .1) (passed-none m row left (l .forest) next row′ t (l .took))
 
   -- a container opens, after a key in an object
-  pub member-opens : (r : Sought) (left : ℕ) (before after : List ℕ) (o : Opening) (here row′ : ℕ) → Opened member row before after o here row′
+  pub member-opens : (r : Sought) (left : ℕ) (ancestry : Ancestry) (before after : List ℕ) (o : Opening) (here row′ : ℕ) → Opened member row ancestry before after o here row′
       → (nested : Opening → Reader) → Walks r m row′ left (nested o here row′) → Walks r m row left (member nested)
   unfolding onto _>>=_
-  member-opens r left before after o here row′ h nested w =
+  member-opens r left ancestry before after o here row′ h nested w =
       let blank : Opening → Reader = λ _ at _. done (none, at) in
       let t = of-done (h .forest ⊕ none, here) (items-kept m (length m) grammar tableless-kept blank (λ o at row. holds empty) opening at row) (h .is blank) in
       rw (h .is nested) (onto-walks r m row row′ left (h .forest) (nested o here row′) (rw (append-none (h .forest)) at t) (h .took) w)

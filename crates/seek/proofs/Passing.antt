@@ -8,6 +8,7 @@ use Rattle.format.specs.Conditions.{if_then_else_}
 use Rattle.format.specs.Outcome.{Parsed, done}
 use Rattle.format.specs.Marks.{Opening}
 use Rattle.format.specs.Tokens.{Forest}
+use Rattle.format.specs.Rows.{Ancestry}
 use Rattle.format.specs.Containers.{table, typedAs}
 use Rattle.format.specs.Panel.{tables, pick}
 use Rattle.laws.proofs.Holds.{of-done}
@@ -24,11 +25,11 @@ passed-within (Fault n p) left low high w = tt
 passed-within (Next next row) left low high w = w
 
 -- what was read whole is passed, if so many tables are in it
-pub pass-whole : (s : Step) (m : List ℕ) (row k left left′ : ℕ) (o : Parsed Forest) (before after : List ℕ)
+pub pass-whole : (s : Step) (m : List ℕ) (row k left left′ : ℕ) (o : Parsed Forest) (ancestry : Ancestry) (before after : List ℕ)
     → ((f : Forest) (next : ℕ) → o ≡ done (f, next) → left ≡ length (tables row f) + left′)
-    → Meets s o row k before after → Walks (passed s left′) m row left o
-pass-whole (Fault n p) m row k left left′ o before after c e f next h = no-fault o n p (f, next) e h
-pass-whole (Next next′ row′) m row k left left′ o before after c l f next h =
+    → Meets s o row k ancestry before after → Walks (passed s left′) m row left o
+pass-whole (Fault n p) m row k left left′ o ancestry before after c e f next h = no-fault o n p (f, next) e h
+pass-whole (Next next′ row′) m row k left left′ o ancestry before after c l f next h =
     let q = parts (sym (l .read) ∙ h) in
     record { ended = q .1; took = rw (q .0) at (l .took); fewer = c f next h }
 

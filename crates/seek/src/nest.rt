@@ -7,6 +7,7 @@ use items::headers::Header;
 use items::headers::header_at;
 use items::starts::Item;
 use items::starts::member_start;
+use rows::OUTERMOST;
 use scan::noops::skip;
 ghost use Prim.Native.Nat.{ℕ, _+_, _≤_, _<_};
 ghost use mathlib.Core.Path.{_≡_};
@@ -23,7 +24,7 @@ ghost use Rattle.tokens.specs.Answers.{Here};
 ghost use Rattle.items.specs.Headers.{memberOf};
 ghost use Rattle.seek.specs.Walks.{Walks, Comes, SoughtWithin};
 
-// A member, with so many levels left for what nests in it, and `left` tables to pass.
+// A member, with so many levels left for what nests in it, and `left` tables to pass. No row is stored, so that any ancestry will do.
 pub fn member(
     message: &[u8],
     levels: usize,
@@ -38,7 +39,16 @@ pub fn member(
 {
     let end = message.len();
     let mut none = [0u32; 0];
-    match member_start(Edition::New, message, &mut none, end, brace, at, row) {
+    match member_start(
+        Edition::New,
+        message,
+        &mut none,
+        end,
+        brace,
+        at,
+        row,
+        OUTERMOST,
+    ) {
         Item::Fault(_, _) => Sought::Refused,
         Item::Next(next, after) => Sought::Past(next, after, left),
         Item::Opens(b, here, below) => container(message, levels, b, here, below, left),

@@ -1,4 +1,5 @@
 // What a walk comes to, and its step over a container under a type: a table, which counts, or another, which holds none.
+use rows::OUTERMOST;
 use tokens::Step;
 use typed::container::typed;
 use typed::table::table;
@@ -44,8 +45,14 @@ pub fn typed_at(message: &[u8], brace: bool, at: usize, row: usize, left: usize)
             if left == 0 {
                 return Sought::Table(brace, at, row);
             }
-            pass(table(message, &mut none, end, brace, at, row), left - 1)
+            pass(
+                table(message, &mut none, end, brace, at, row, OUTERMOST),
+                left - 1,
+            )
         }
-        ContainerType::Of(_) => pass(typed(message, &mut none, end, brace, at, row), left),
+        ContainerType::Of(_) => pass(
+            typed(message, &mut none, end, brace, at, row, OUTERMOST),
+            left,
+        ),
     }
 }

@@ -8,6 +8,7 @@ use lib.ListN.{length}
 use borrow.Author.Needs.{needs}
 use Rattle.format.specs.Outcome.{fault, done}
 use Rattle.format.specs.Limits.{limit}
+use Rattle.format.specs.Rows.{Ancestry}
 use Rattle.format.specs.Dimensions.{Shape, shape}
 use Rattle.shapes.specs.Answers.{Told}
 use Rattle.columns.proofs.Inverse.{never, done-pair}
@@ -24,7 +25,7 @@ module _ (m : List ℕ) (at lent row start : ℕ) (n : Shape) (l : row ≤ lent)
   unread : {x y : ℕ} → shape m (length m) false at 0 ≡ fault x y → ⊥
   unread t = never (sym t ∙ at-first)
 
-  told-over : {ws vs : List ℕ} {next row′ many order : ℕ} → Told (shape m (length m) false at 0) 0 ws vs next row′ many order → n .many ≤ limit → CountOver n start (record { start = next; many = many })
+  told-over : {ancestry : Ancestry} {ws vs : List ℕ} {next row′ many order : ℕ} → Told (shape m (length m) false at 0) 0 ancestry ws vs next row′ many order → n .many ≤ limit → CountOver n start (record { start = next; many = many })
   told-over u h =
       let q = done-pair (sym (u .read) ∙ at-first) in
       let k = ap (λ (s : Shape). s .many) (q .0) in

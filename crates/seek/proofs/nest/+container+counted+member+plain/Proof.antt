@@ -243,7 +243,7 @@ unfolding memberOf
 member-returns-2 t c =
     let e = c .before .next .given .1 in
     let h = rw e at (c .before .before .before .before .member-start .ensures .0) in
-    (member-past _ _ _ _ _ _ _ _ _ _ h _, rw e at (c .before .before .before .before .member-start .ensures .1))
+    (member-past _ _ _ _ _ _ _ _ _ _ _ h _, rw e at (c .before .before .before .before .member-start .ensures .1))
 
 member-returns-3 : (t : ℕ) → member-lts.Need-returns-3 (member-calls t) (member-at t) member.Post
 unfolding memberOf
@@ -252,7 +252,7 @@ member-returns-3 t c =
     let h = rw e at (c .before .before .before .before .before .member-start .ensures .0) in
     let w = rw e at (c .before .before .before .before .before .member-start .ensures .1) in
     let v = c .container in
-    (member-opens _ _ _ _ _ (v .result) _ _ _ _ _ _ h _ (v .ensures .0), within-from (v .result) _ _ _ (omega arith) (v .ensures .1))
+    (member-opens _ _ _ _ _ (v .result) _ _ _ _ _ _ _ h _ (v .ensures .0), within-from (v .result) _ _ _ (omega arith) (v .ensures .1))
 
 abbrev plain-Inv-loop : plain-lts.InvT-loop
 plain-Inv-loop message levels brace start first number end closing at₀ row₀ left₀ at row left =

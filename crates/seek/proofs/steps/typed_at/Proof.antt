@@ -26,7 +26,7 @@ slice-aggregate-table c = search needs
 
 table-requires : tie.Need-table-requires
 table-requires c κs =
-    let w = rw (c .before .before .enum-told2 .given .1) at (c .before .before .before .before .type-at .ensures .1) in (omega arith, w, omega arith)
+    let w = rw (c .before .before .enum-told2 .given .1) at (c .before .before .before .before .type-at .ensures .1) in (omega arith, w, omega arith, omega arith)
 
 sub-pass : tie.Need-sub-pass
 sub-pass c = search needs
@@ -41,7 +41,7 @@ slice-aggregate-typed : tie.Need-slice-aggregate-typed
 slice-aggregate-typed c = search needs
 
 typed-requires : tie.Need-typed-requires
-typed-requires c κs = search needs
+typed-requires c κs = (omega arith, omega arith, omega arith, omega arith)
 
 pass-requires-2 : tie.Need-pass-requires-2
 pass-requires-2 c κs = search needs
@@ -56,7 +56,7 @@ returns-3 c =
     let h = rw (c .before .before .before .before .before .enum-told2 .given .1) at (c .before .before .before .before .before .before .before .type-at .ensures .0) in
     let t = c .before .before .table in
     rw (c .pass .ensures) (
-      (λ f next q. pass-whole (t .result) _ _ _ _ _ _ _ _ (table-counts _ _ _ _ _ (omega (arith, c .before .before .before .before .if1 .left))) (t .ensures .0) f next (sym (h _ _ _) ∙ q)),
+      (λ f next q. pass-whole (t .result) _ _ _ _ _ _ _ _ _ (table-counts _ _ _ _ _ (omega (arith, c .before .before .before .before .if1 .left))) (t .ensures .0) f next (sym (h _ _ _) ∙ q)),
       passed-within (t .result) _ _ _ (t .ensures .1),
     )
 
@@ -65,7 +65,7 @@ returns-4 c =
     let h = rw (c .before .before .before .before .enum-told3 .given .1) at (c .before .before .before .before .before .before .type-at .ensures .0) in
     let t = c .before .before .typed in
     rw (c .pass2 .ensures) (
-      (λ f next q. pass-whole (t .result) _ _ _ _ _ _ _ _ (λ g end e. typed-counts _ _ _ _ _ _ g end (sym (h _ _ _) ∙ e)) (t .ensures .0) f next q),
+      (λ f next q. pass-whole (t .result) _ _ _ _ _ _ _ _ _ (λ g end e. typed-counts _ _ _ _ _ _ g end (sym (h _ _ _) ∙ e)) (t .ensures .0) f next q),
       passed-within (t .result) _ _ _ (t .ensures .1),
     )
 
