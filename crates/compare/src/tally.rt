@@ -4,6 +4,7 @@
 // their rows have.
 use crate::answers::Numbers;
 use crate::answers::word;
+use rows::ROW_WORDS;
 
 pub const MESSAGES: usize = 0;
 
@@ -67,7 +68,7 @@ fn mixed(sum: u64, n: u64) -> u64 {
 fn mixed_words(sum: u64, rows: &[u32], used: usize) -> u64 {
     let mut mix = sum;
     let mut i: usize = 0;
-    while i < rows.len() && i / 8 < used {
+    while i < rows.len() && i / ROW_WORDS < used {
         mix = mixed(mix, word(rows, i) as u64);
         i += 1;
     }
@@ -96,10 +97,10 @@ fn bit_if(holds: bool, n: u32) -> u32 {
 
 // What a row has, as bits.
 fn row_bits(rows: &[u32], row: usize) -> u32 {
-    if rows.len() / 8 <= row {
+    if rows.len() / ROW_WORDS <= row {
         return 0;
     }
-    let at = row * 8;
+    let at = row * ROW_WORDS;
     let kind = word(rows, at);
     let order = word(rows, at + 7);
     let columns = kind == 8 && word(rows, at + 1) == 123;

@@ -21,6 +21,9 @@ ghost use lib.ListN.{length};
 // The bytes that a buffer needs for a message not to be cut.
 pub const ROOM: usize = 2048;
 
+// The words of a row.
+const ROW: usize = 10;
+
 // Draws how deep the message's first values go: not at all most often, and to the limit; as a fault beyond.
 fn depth(pen: Pen) -> Pen {
     let mut drawn = pen.draw(24);
@@ -80,19 +83,32 @@ pub fn message(number: u64, buffer: &mut [u8]) -> usize
     buffer.len()
 }
 
-// The words to be lent for message so and so, of a length: most often eight for each byte and up to seven more; else few for the
-// length, few, or about as many as the deepest messages need.
+// Draws how many rows are to be lent for a message of so many bytes: most often one for each byte; else few for the length, few, or
+// about as many as the deepest messages need. What is few is drawn in eighths of a row.
+fn rows(pen: Pen, bytes: u32) -> Pen {
+    let mut drawn = pen.draw(8);
+    let choice = drawn.value;
+    if choice == 0 {
+        drawn = drawn.draw(more(bytes, more(bytes, more(bytes, 9))));
+        drawn.value = drawn.value / 8;
+        return drawn;
+    }
+    if choice == 1 {
+        drawn = drawn.draw(330);
+        drawn.value = drawn.value / 8;
+        return drawn;
+    }
+    if choice == 2 {
+        drawn = drawn.draw(128);
+        drawn.value = more(drawn.value / 8, 33);
+        return drawn;
+    }
+    drawn.value = bytes;
+    drawn
+}
+
+// The words to be lent for message so and so, of a length: those of the rows, and up to nine more.
 pub fn words(number: u64, length: usize) -> usize {
-    let pen = Pen::new(number ^ 0x0F0F_0000_0000).draw(8);
-    let bytes = small(length);
-    if pen.value == 0 {
-        return pen.draw(more(bytes, more(bytes, more(bytes, 9)))).value as usize;
-    }
-    if pen.value == 1 {
-        return pen.draw(330).value as usize;
-    }
-    if pen.value == 2 {
-        return pen.draw(128).value as usize + 264;
-    }
-    pen.draw(8).value as usize + bytes as usize * 8
+    let lent = rows(Pen::new(number ^ 0x0F0F_0000_0000), small(length));
+    lent.value as usize * ROW + lent.draw(10).value as usize
 }

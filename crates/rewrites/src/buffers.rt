@@ -17,10 +17,10 @@ pub fn output() -> [u8; 8256]
 }
 
 // For a row to each byte of a message, and a remainder.
-pub fn rows() -> [u32; 16392]
-    ensures { λ r. ⌜ 16392 ≡ length r ⌝ }
+pub fn rows() -> [u32; 20490]
+    ensures { λ r. ⌜ 20490 ≡ length r ⌝ }
 {
-    [0; 16392]
+    [0; 20490]
 }
 
 // For what is counted.

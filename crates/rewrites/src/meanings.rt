@@ -1,5 +1,5 @@
-// Whether two messages have the same meaning, as document 01 and request No. 1 say it: row by row, word by word, and the bytes of the payloads and
-// of the ids.
+// Whether two messages have the same meaning, as document 01 and requests No. 1 and No. 8 say it: row by row, word by word, and the
+// bytes of the payloads and of the ids.
 use crate::tally;
 use format::marks::Mark;
 use memory::byte;
@@ -31,6 +31,11 @@ fn payload_counts(kind: u32) -> bool {
 // Whether two rows are the same in the words that every kind has: kind, count, link and order.
 fn same_shape(a: Row, b: Row) -> bool {
     a.kind == b.kind && a.count == b.count && a.link == b.link && a.order == b.order
+}
+
+// Whether they are the same in parent and depth, which every kind has too.
+fn same_ancestry(a: Row, b: Row) -> bool {
+    a.parent == b.parent && a.depth == b.depth
 }
 
 // Whether they are the same in mark, offset and length, where these have a meaning.
@@ -70,7 +75,11 @@ fn by_kind(kind: u32) -> usize {
 // Compares two rows.
 fn compare(counts: &mut [u64], message: &[u8], a: Row, form: &[u8], b: Row) {
     tally::add(counts, by_kind(a.kind), 1);
-    tally::expect(counts, tally::WORDS, same_shape(a, b) && same_rest(a, b));
+    tally::expect(
+        counts,
+        tally::WORDS,
+        same_shape(a, b) && same_ancestry(a, b) && same_rest(a, b),
+    );
     tally::expect(counts, tally::PAYLOADS, same_payload(message, a, form, b));
     tally::expect(counts, tally::IDS, same_id(message, a, form, b));
 }

@@ -110,14 +110,14 @@ pub fn mark_of(word: u32) -> u8 {
 pub fn top(frames: &[u32], m: Machine) -> Frame {
     let i = difference(m.open, 1);
     Frame {
-        task: table::word(frames, i, 0),
-        row: table::word(frames, i, 1),
-        mark: mark_of(table::word(frames, i, 2)),
-        element: mark_of(table::word(frames, i, 3)),
-        first: table::word(frames, i, 4),
-        start: table::word(frames, i, 5),
-        count: table::word(frames, i, 6),
-        total: table::word(frames, i, 7),
+        task: table::frame_word(frames, i, 0),
+        row: table::frame_word(frames, i, 1),
+        mark: mark_of(table::frame_word(frames, i, 2)),
+        element: mark_of(table::frame_word(frames, i, 3)),
+        first: table::frame_word(frames, i, 4),
+        start: table::frame_word(frames, i, 5),
+        count: table::frame_word(frames, i, 6),
+        total: table::frame_word(frames, i, 7),
     }
 }
 
@@ -126,7 +126,7 @@ pub fn keep(frames: &mut [u32], m: Machine, f: Frame) {
     let i = difference(m.open, 1);
     let mark = f.mark as u32;
     let element = f.element as u32;
-    table::store(
+    table::store_frame(
         frames,
         i,
         [
@@ -142,17 +142,39 @@ pub fn keep(frames: &mut [u32], m: Machine, f: Frame) {
     );
 }
 
+// The innermost frame that has a row. All have one but the message's, which is the outermost, and a dimension vector's, which is the
+// innermost while it is open: so the place of this one is also how many have one. 0 is the message's, if none has.
+fn holder(frames: &[u32], m: Machine) -> u32 {
+    let i = difference(m.open, 1);
+    if OUTER <= table::frame_word(frames, i, 0) {
+        return difference(i, 1);
+    }
+    i
+}
+
+// With the parent and the depth of a token that stands in what is open.
+fn held(frames: &[u32], m: Machine) -> Machine {
+    let i = holder(frames, m);
+    let mut inside = m;
+    inside.depth = i;
+    inside.parent = 0;
+    if 0 < i {
+        inside.parent = sum(table::frame_word(frames, i, 1), 1);
+    }
+    inside
+}
+
 // Opens a frame.
 pub fn push(frames: &mut [u32], m: Machine, f: Frame) -> Machine {
     let mut opened = m;
     opened.open = sum(m.open, 1);
     keep(frames, opened, f);
-    opened
+    held(frames, opened)
 }
 
 // Closes the innermost frame.
-pub fn pop(m: Machine) -> Machine {
+pub fn pop(frames: &[u32], m: Machine) -> Machine {
     let mut closed = m;
     closed.open = difference(m.open, 1);
-    closed
+    held(frames, closed)
 }

@@ -1,5 +1,6 @@
-// A second reader, written from document 01 and request No. 1 apart from the first and in another shape, to be compared with it: a machine with a
-// stack of frames in place of functions that call each other. It shares the width of a mark with the first, and nothing else.
+// A second reader, written from document 01 and requests No. 1 and No. 8 apart from the first and in another shape, to be compared
+// with it: a machine with a stack of frames in place of functions that call each other. It shares the width of a mark with the first,
+// and nothing else.
 mod bytes;
 mod content;
 mod extension;
@@ -60,14 +61,14 @@ fn step(message: &[u8], rows: &mut [u32], frames: &mut [u32], m: Machine) -> Mac
     let task = f.task;
     match task {
         frames::MESSAGE => values::message_value(message, rows, frames, m, f),
-        frames::AFTER => values::after_value(message, m),
+        frames::AFTER => values::after_value(message, frames, m),
         frames::HEADER => values::header(message, frames, m, f),
         frames::TYPE => values::type_mark(message, frames, m, f),
         frames::HASH => values::hash(message, frames, m, f, frames::COUNT),
         frames::COUNT => values::count(message, frames, m, f),
         frames::MEMBER => values::member(message, rows, frames, m, f),
         frames::VALUE => values::member_value(message, rows, frames, m, f),
-        frames::PAYLOAD => payloads::payload(message, rows, m, f),
+        frames::PAYLOAD => payloads::payload(message, rows, frames, m, f),
         _ => header_step(message, rows, frames, m, f),
     }
 }
@@ -105,7 +106,8 @@ fn has_extensions(edition: Edition) -> bool {
 // Reads a message of an edition into lent rows: the rows used, or a refusal's number and place.
 pub fn read(edition: Edition, message: &[u8], rows: &mut [u32]) -> Answer {
     let extensions = has_extensions(edition);
-    let mut m = Machine::new(number(message.len()), number(rows.len() / 8), extensions);
+    let lent = number(rows.len() / table::ROW);
+    let mut m = Machine::new(number(message.len()), lent, extensions);
     if LIMIT < message.len() {
         return answer(rows, m.refuse(1, 0));
     }

@@ -13,6 +13,9 @@ pub struct Machine {
     pub row: u32,
     pub open: u32,
     pub levels: u32,
+    // Of a token that stands in what is open: its parent's row plus one, and its depth; both 0 for the outermost.
+    pub parent: u32,
+    pub depth: u32,
     // Of the header that is being read: the bytes of its record so far, the product of its dimensions so far, their order.
     pub offset: u32,
     pub product: u32,
@@ -35,6 +38,8 @@ impl Machine {
             row: 0,
             open: 0,
             levels: 0,
+            parent: 0,
+            depth: 0,
             offset: 0,
             product: 0,
             order: 0,

@@ -10,6 +10,7 @@ use crate::numbers::difference;
 use crate::numbers::product;
 use crate::numbers::sum;
 use crate::table;
+use crate::token;
 
 // The most bytes of a record.
 const RECORD: u32 = 65_536;
@@ -41,10 +42,10 @@ fn wrong_element(message: &[u8], mark: u8, from: u32, end: u32) -> u32 {
 fn wrong_leaf(message: &[u8], rows: &[u32], f: Field, at: u32) -> u32 {
     let mut row = f.from;
     while row < f.to {
-        let first = sum(at, difference(table::word(rows, row, 3), f.offset));
-        let end = sum(first, table::word(rows, row, 4));
-        let mark = frames::mark_of(table::word(rows, row, 1));
-        if table::word(rows, row, 0) == 9 && !is_content(message, mark, first, end) {
+        let first = sum(at, difference(table::row_word(rows, row, 3), f.offset));
+        let end = sum(first, table::row_word(rows, row, 4));
+        let mark = frames::mark_of(table::row_word(rows, row, 1));
+        if table::row_word(rows, row, 0) == 9 && !is_content(message, mark, first, end) {
             return first;
         }
         row += 1;
@@ -74,9 +75,9 @@ fn wrong_value(message: &[u8], rows: &[u32], f: Field, from: u32, values: u32) -
 fn extent(rows: &[u32], row: u32) -> Field {
     Field {
         from: row,
-        to: table::word(rows, row, 6),
-        offset: table::word(rows, row, 3),
-        bytes: table::word(rows, row, 4),
+        to: table::row_word(rows, row, 6),
+        offset: table::row_word(rows, row, 3),
+        bytes: table::row_word(rows, row, 4),
     }
 }
 
@@ -122,11 +123,13 @@ fn unit(m: Machine, f: Frame) -> u32 {
 }
 
 // Stores the row of a packed array or a table.
-fn close(rows: &mut [u32], m: Machine, f: Frame, length: u32) -> Machine {
+fn close(rows: &mut [u32], frames: &[u32], m: Machine, f: Frame, length: u32) -> Machine {
     let kind: u32 = if f.element == b'{' { 8 } else { 7 };
     let mark: u8 = if f.element == b'{' { f.mark } else { f.element };
-    table::store(
+    let closed = frames::pop(frames, m);
+    token::store(
         rows,
+        closed,
         f.row,
         [
             kind,
@@ -139,11 +142,11 @@ fn close(rows: &mut [u32], m: Machine, f: Frame, length: u32) -> Machine {
             m.order,
         ],
     );
-    frames::pop(m.past(length))
+    closed.past(length)
 }
 
 // The payload, which stands here: product or record size, payload end, content.
-pub fn payload(message: &[u8], rows: &mut [u32], m: Machine, f: Frame) -> Machine {
+pub fn payload(message: &[u8], rows: &mut [u32], frames: &[u32], m: Machine, f: Frame) -> Machine {
     if LIMIT < m.product {
         return m.refuse(5, f.first);
     }
@@ -160,5 +163,5 @@ pub fn payload(message: &[u8], rows: &mut [u32], m: Machine, f: Frame) -> Machin
     if place != NONE {
         return m.refuse(4, place);
     }
-    close(rows, m, f, length)
+    close(rows, frames, m, f, length)
 }

@@ -9,7 +9,6 @@ use crate::integers::integer;
 use crate::machine::Machine;
 use crate::numbers::difference;
 use crate::numbers::sum;
-use crate::table;
 use crate::token;
 use crate::token::Entry;
 
@@ -34,16 +33,17 @@ pub fn open(frames: &mut [u32], m: Machine, task: u32, mark: u8) -> Machine {
 }
 
 // Closes a record or a fixed array, at its closing mark: its row is stored, and its kinds have moved the offset.
-fn close(rows: &mut [u32], m: Machine, f: Frame) -> Machine {
+fn close(rows: &mut [u32], frames: &[u32], m: Machine, f: Frame) -> Machine {
     let kind: u32 = if f.mark == b'{' { 10 } else { 11 };
     let mark = f.mark as u32;
     let bytes = difference(m.offset, f.start);
-    table::store(
+    let mut closed = frames::pop(frames, m);
+    token::store(
         rows,
+        closed,
         f.row,
         [kind, mark, f.first, f.start, bytes, f.count, m.row, 0],
     );
-    let mut closed = frames::pop(m);
     closed.levels = difference(m.levels, 1);
     closed.past(1)
 }
@@ -62,7 +62,7 @@ pub fn field(
     f: Frame,
 ) -> Machine {
     if ends(message, m, f) {
-        return close(rows, m, f);
+        return close(rows, frames, m, f);
     }
     frames::keep(frames, m, f.counted().turned(frames::KIND));
     token::key(message, rows, m)
@@ -98,7 +98,7 @@ pub fn element(
     f: Frame,
 ) -> Machine {
     if ends(message, m, f) {
-        return close(rows, m, f);
+        return close(rows, frames, m, f);
     }
     frames::keep(frames, m, f.counted());
     kind(message, rows, frames, m)

@@ -20,13 +20,19 @@ pub struct Entry {
     pub count: u32,
 }
 
+// Stores the row of a token that stands in what is open, given its first eight words.
+pub fn store(rows: &mut [u32], m: Machine, row: u32, values: [u32; 8]) {
+    table::store_row(rows, row, values, m.parent, m.depth);
+}
+
 // Stores the token in the next row.
 pub fn take_row(rows: &mut [u32], m: Machine, t: Entry) -> Machine {
     let mut after = m;
     let mark = t.mark as u32;
     let link = sum(m.row, 1);
-    table::store(
+    store(
         rows,
+        m,
         m.row,
         [t.kind, mark, t.first, t.payload, t.length, t.count, link, 0],
     );

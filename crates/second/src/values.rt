@@ -12,7 +12,6 @@ use crate::machine::Machine;
 use crate::numbers::difference;
 use crate::numbers::sum;
 use crate::schema;
-use crate::table;
 use crate::token;
 use crate::vectors;
 
@@ -71,13 +70,13 @@ pub fn message_value(
 }
 
 // What comes after the message's value: nothing but `N`.
-pub fn after_value(message: &[u8], m: Machine) -> Machine {
+pub fn after_value(message: &[u8], frames: &[u32], m: Machine) -> Machine {
     let after = past_noops(message, m);
     let at = after.at;
     if at < m.end {
         return m.refuse(9, at);
     }
-    frames::pop(after)
+    frames::pop(frames, after)
 }
 
 // After an array's or an object's opening mark.
@@ -169,16 +168,18 @@ fn members(message: &[u8], frames: &mut [u32], m: Machine, f: Frame) -> Machine 
 }
 
 // Stores the row of an array or an object, whose payload ends here.
-fn close(rows: &mut [u32], m: Machine, f: Frame) -> Machine {
+fn close(rows: &mut [u32], frames: &[u32], m: Machine, f: Frame) -> Machine {
     let kind: u32 = if f.mark == b'[' { 5 } else { 6 };
     let mark = f.mark as u32;
     let length = difference(m.at, f.start);
-    table::store(
+    let closed = frames::pop(frames, m);
+    token::store(
         rows,
+        closed,
         f.row,
         [kind, mark, f.first, f.start, length, f.count, m.row, 0],
     );
-    frames::pop(m)
+    closed
 }
 
 // Past every `N` that stands here, in a container without a type.
@@ -198,11 +199,11 @@ pub fn member(
     f: Frame,
 ) -> Machine {
     if f.count == f.total {
-        return close(rows, m, f);
+        return close(rows, frames, m, f);
     }
     let here = gap(message, m, f);
     if f.total == frames::ENDLESS && byte(message, here.at) == closing(f.mark) {
-        return close(rows, here, f).past(1);
+        return close(rows, frames, here, f).past(1);
     }
     if f.mark == b'[' {
         frames::keep(frames, m, f.counted());

@@ -75,14 +75,14 @@ pub fn count(message: &[u8], frames: &mut [u32], m: Machine, f: Frame) -> Machin
 }
 
 // The vector's end: under a further `[` a `]` follows.
-fn close(message: &[u8], m: Machine) -> Machine {
+fn close(message: &[u8], frames: &[u32], m: Machine) -> Machine {
     if m.order == 1 {
-        return frames::pop(m);
+        return frames::pop(frames, m);
     }
     if byte(message, m.at) != b']' {
         return m.unexpected();
     }
-    frames::pop(m.past(1))
+    frames::pop(frames, m.past(1))
 }
 
 // One dimension, by the vector's form.
@@ -102,13 +102,13 @@ pub fn dimension(
     f: Frame,
 ) -> Machine {
     if f.count == f.total {
-        return close(message, m);
+        return close(message, frames, m);
     }
     if f.total == frames::ENDLESS && byte(message, m.at) == b']' {
         if f.count == 0 {
             return m.refuse(6, f.first);
         }
-        return close(message, m.past(1));
+        return close(message, frames, m.past(1));
     }
     frames::keep(frames, m, f.counted());
     let after = one(message, rows, m, f);

@@ -10,10 +10,10 @@ pub fn message() -> [u8; 2048]
 }
 
 // For as many rows as a message has bytes.
-pub fn rows() -> [u32; 16384]
-    ensures { λ r. ⌜ 16384 ≡ length r ⌝ }
+pub fn rows() -> [u32; 20480]
+    ensures { λ r. ⌜ 20480 ≡ length r ⌝ }
 {
-    [0; 16384]
+    [0; 20480]
 }
 
 // For the list of a message's slots.

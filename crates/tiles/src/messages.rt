@@ -9,13 +9,14 @@ use format::answers::Answer;
 use format::answers::Edition;
 use numbers::least;
 use numbers::narrow;
+use rows::ROW_WORDS;
 
 // How many messages are made.
 const MESSAGES: u64 = 40_000;
 
 // The words of as many rows as there are bytes.
 fn words_for(bytes: usize) -> usize {
-    least(bytes, generate::ROOM) * 8
+    least(bytes, generate::ROOM) * ROW_WORDS
 }
 
 // Goes through the slots of an accepted message, and tries changes.

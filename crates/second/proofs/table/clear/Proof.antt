@@ -7,10 +7,10 @@ use Rattle.second.proofs.table.clear.Statement.{statement}
 use Rattle.second.proofs.table.clear.Tie as tie
 
 abbrev Inv-loop : tie.InvT-loop
-Inv-loop words₀ entry i₀ words i = length words ≡ length words₀
+Inv-loop rows₀ row i₀ rows i = length rows ≡ length rows₀
 
 abbrev μ-loop : tie.MeasureT-loop
-μ-loop words₀ entry i₀ words i = length words₀ - i
+μ-loop rows₀ row i₀ rows i = length rows₀ - i
 
 pub clear-spec : {M : Type 1} → statement M
 clear-spec =
