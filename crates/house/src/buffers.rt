@@ -17,8 +17,8 @@ pub fn bytes() -> [u8; 1048832]
 }
 
 // For 4,200 rows and a remainder.
-pub fn rows() -> [u32; 33607]
-    ensures { λ r. ⌜ 33607 ≡ length r ⌝ }
+pub fn rows() -> [u32; 42009]
+    ensures { λ r. ⌜ 42009 ≡ length r ⌝ }
 {
-    [0; 33607]
+    [0; 42009]
 }

@@ -7,16 +7,17 @@ use lines::numbers::after;
 use lines::numbers::decimal;
 use lines::words::stored;
 use memory::least;
+use rows::ROW_WORDS;
 ghost use Prim.Native.Nat.{_≤_};
 
 // The words of so many rows, or of all the buffer's, and a remainder that changes with the rows.
 fn words_of(rows: usize) -> usize
-    ensures { λ r. ⌜ r ≤ 33607 ⌝ }
+    ensures { λ r. ⌜ r ≤ 42009 ⌝ }
 {
     if rows < 4200 {
-        return rows * 8 + rows % 8;
+        return rows * ROW_WORDS + rows % ROW_WORDS;
     }
-    33607
+    42009
 }
 
 // One message, with so many rows lent.

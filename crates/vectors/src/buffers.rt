@@ -17,8 +17,8 @@ pub fn message() -> [u8; 1048832]
 }
 
 // For 4,200 rows, with no word zero.
-pub fn rows() -> [u32; 33600]
-    ensures { λ r. ⌜ 33600 ≡ length r ⌝ }
+pub fn rows() -> [u32; 42000]
+    ensures { λ r. ⌜ 42000 ≡ length r ⌝ }
 {
-    [0xAAAA_AAAA; 33600]
+    [0xAAAA_AAAA; 42000]
 }

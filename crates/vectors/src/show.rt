@@ -4,16 +4,17 @@ use format::answers::Edition;
 use lines::show::bytes;
 use lines::show::number;
 use lines::show::three;
+use rows::ROW_WORDS;
 ghost use Prim.Native.Nat.{_≤_};
 
 // The words of so many rows, or of all the buffer's.
 pub fn words_of(rows: usize) -> usize
-    ensures { λ r. ⌜ r ≤ 33600 ⌝ }
+    ensures { λ r. ⌜ r ≤ 42000 ⌝ }
 {
     if rows < 4200 {
-        return rows * 8;
+        return rows * ROW_WORDS;
     }
-    33600
+    42000
 }
 
 // Whether the words from a place on are zero.
@@ -32,7 +33,7 @@ fn is_clear(rows: &[u32], from: usize) -> bool {
 fn row(rows: &[u32], r: usize) {
     number(rows::word(rows, r, 0) as u64);
     let mut k: usize = 1;
-    while k < 8 {
+    while k < ROW_WORDS {
         bytes(b",");
         number(rows::word(rows, r, k) as u64);
         k += 1;

@@ -6,7 +6,7 @@ use Rattle.calls.proofs.buffers.text.Statement.{statement}
 use Rattle.calls.proofs.buffers.text.Tie as tie
 
 returns : tie.Need-returns
-returns c = sym (length-replicate {0} {A = ℕ} 720896 0)
+returns c = sym (length-replicate {0} {A = ℕ} 1310720 0)
 
 pub text-spec : {M : Type 1} → statement M
 text-spec = tie.close (tie.spec returns)

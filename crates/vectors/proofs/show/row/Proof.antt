@@ -1,6 +1,7 @@
 -- `show::row`: a loop over the words. Assumes nothing.
 use borrow.Author.Needs.{needs}
 use Prim.Native.Nat.{_-_}
+use Rattle.format.specs.Rows.{rowWords}
 use Rattle.vectors.proofs.show.row.Statement.{statement}
 use Rattle.vectors.proofs.show.row.Tie as tie
 
@@ -8,7 +9,7 @@ abbrev Inv-loop : tie.InvT-loop
 Inv-loop rows r k₀ t4 k = Unit {0}
 
 abbrev μ-loop : tie.MeasureT-loop
-μ-loop rows r k₀ t4 k = 8 - k
+μ-loop rows r k₀ t4 k = rowWords - k
 
 word-requires : tie.Need-word-requires Inv-loop μ-loop
 word-requires c κs = search needs
