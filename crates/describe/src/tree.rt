@@ -1,4 +1,4 @@
-// The rows as a table, indented by nesting.
+// The rows as a table, indented by depth.
 use crate::row;
 use crate::words;
 use crate::words::say;
@@ -7,49 +7,18 @@ use numbers::less;
 use numbers::sum;
 use rows::Row;
 use rows::count;
-use rows::link;
 use rows::load;
+use wording::block::byte;
 use wording::block::line;
 use wording::block::spaces;
 use wording::digits::right;
 use wording::phrases::plain;
 use wording::phrases::with;
 
-// The columns of a number.
+// The columns of a number, and of a small one.
 const WIDE: usize = 8;
 
-// The open rows: the row after the last descendant of each, and how many there are. A message nests less deep than there is room.
-struct Open {
-    ends: [usize; 64],
-    depth: usize,
-}
-
-// The row after the last descendant of the row that is open at a depth; 0 where none is.
-fn end_at(o: Open, depth: usize) -> usize {
-    if depth < 64 {
-        return o.ends[depth];
-    }
-    0
-}
-
-// How many of the open rows hold a row.
-fn depth_of(o: Open, row: usize) -> usize {
-    let mut d = o.depth;
-    while 0 < d && end_at(o, less(d, 1)) <= row {
-        d -= 1;
-    }
-    d
-}
-
-// The open rows with this one, by the row after its last descendant.
-fn with_row(mut o: Open, row: usize, end: usize) -> Open {
-    let d = depth_of(o, row);
-    o.depth = sum(d, 1);
-    if d < 64 {
-        o.ends[d] = end;
-    }
-    o
-}
+const NARROW: usize = 6;
 
 // A row's number, and its first words: where the token and its payload stand, and how long the payload is.
 fn places(row: usize, r: Row, out: &mut [u8], at: usize) -> usize {
@@ -59,26 +28,38 @@ fn places(row: usize, r: Row, out: &mut [u8], at: usize) -> usize {
     right(out, payload, r.extent as usize, WIDE)
 }
 
-// The other words: count, link and order.
+// The row that holds this one; the outermost is held by none.
+fn parent(r: Row, out: &mut [u8], at: usize) -> usize {
+    if r.parent == 0 {
+        let begun = spaces(out, at, WIDE - 1);
+        return byte(out, begun, b'-');
+    }
+    right(out, at, less(r.parent as usize, 1), WIDE)
+}
+
+// The other words: count, link, order, parent and depth.
 fn links(r: Row, out: &mut [u8], at: usize) -> usize {
     let count = right(out, at, r.count as usize, WIDE);
     let next = right(out, count, r.link as usize, WIDE);
-    right(out, next, r.order as usize, 6)
+    let order = right(out, next, r.order as usize, NARROW);
+    let held = parent(r, out, order);
+    right(out, held, r.depth as usize, NARROW)
 }
 
-// One row, at a depth.
+// One row, indented by how much deeper it is than the first that is shown.
 fn row_line(
     message: &[u8],
     rows: &[u32],
     row: usize,
-    depth: usize,
+    outer: usize,
     out: &mut [u8],
     at: usize,
 ) -> usize {
     let r = load(rows, row);
     let first = places(row, r, out, at);
     let shown = links(r, out, first);
-    let begun = spaces(out, shown, sum(2, sum(depth, depth)));
+    let deeper = less(r.depth as usize, outer);
+    let begun = spaces(out, shown, sum(2, sum(deeper, deeper)));
     let told = row::shown(message, rows, row, out, begun);
     line(out, told)
 }
@@ -92,15 +73,11 @@ fn lines(
     out: &mut [u8],
     at: usize,
 ) -> usize {
-    let mut o = Open {
-        ends: [0; 64],
-        depth: 0,
-    };
+    let outer = load(rows, from).depth as usize;
     let mut next = say(out, at, plain(words::ROWS_HEAD));
     let mut row = from;
     while row < end {
-        o = with_row(o, row, link(rows, row));
-        next = row_line(message, rows, row, less(o.depth, 1), out, next);
+        next = row_line(message, rows, row, outer, out, next);
         row += 1;
     }
     next

@@ -151,7 +151,7 @@ row #: @, rest of its header
 row #: @, end
 no-op
 # no-ops
-     row   first payload  length   count    next order  token~
+     row   first payload  length   count    next order  parent depth  token~
 ~   first   width  address and value~
     byte  hex                                              belongs to~
      and # more row$, not held~

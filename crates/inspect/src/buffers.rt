@@ -13,10 +13,10 @@ pub fn message() -> [u8; 1048577]
 }
 
 // For the rows.
-pub fn rows() -> [u32; 1048576]
-    ensures { λ r. ⌜ 1048576 ≡ length r ⌝ }
+pub fn rows() -> [u32; 1310720]
+    ensures { λ r. ⌜ 1310720 ≡ length r ⌝ }
 {
-    [0; 1048576]
+    [0; 1310720]
 }
 
 // For a message in house form.

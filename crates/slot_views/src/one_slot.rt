@@ -80,7 +80,7 @@ pub fn address_of(s: Slot, out: &mut [u8], at: usize) -> usize {
 }
 
 // Where the slot of the rows of a leaf alone stands in a message of this size.
-fn located_in(few: &[u32; 128], size: u32, indexes: Indexes) -> Located {
+fn located_in(few: &[u32; 130], size: u32, indexes: Indexes) -> Located {
     let list = indexes.list;
     ask::located(few, size, 0, LEAF, &list, indexes.count)
 }
@@ -92,7 +92,7 @@ pub fn located(rows: &[u32], size: u32, s: Slot) -> Located {
 }
 
 // The mark and the value of what is in a slot, by the rows of its leaf alone.
-fn value(message: &[u8], few: &[u32; 128], indexes: Indexes, out: &mut [u8], at: usize) -> usize {
+fn value(message: &[u8], few: &[u32; 130], indexes: Indexes, out: &mut [u8], at: usize) -> usize {
     let mark = shape::mark(few, 0, LEAF);
     let list = indexes.list;
     let equal = say(out, at, with(words::MARK, mark, 0, 0));

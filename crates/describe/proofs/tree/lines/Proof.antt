@@ -7,10 +7,10 @@ use Rattle.describe.proofs.tree.lines.Statement.{statement}
 use Rattle.describe.proofs.tree.lines.Tie as tie
 
 abbrev Inv-loop : tie.InvT-loop
-Inv-loop message rows from end out₀ at o₀ next₀ row₀ out o next row = length out ≡ length out₀
+Inv-loop message rows from end out₀ at outer next₀ row₀ out next row = length out ≡ length out₀
 
 abbrev μ-loop : tie.MeasureT-loop
-μ-loop message rows from end out₀ at o₀ next₀ row₀ out o next row = end - row
+μ-loop message rows from end out₀ at outer next₀ row₀ out next row = end - row
 
 pub lines-spec : {M : Type 1} → statement M
 lines-spec =
@@ -19,11 +19,10 @@ lines-spec =
     Inv-loop
     μ-loop
     (λ c κs. search needs)
-    (λ c κs. search needs)
     (λ c. search needs)
     (λ c κs. search needs)
     (λ c κs. search needs)
-    (λ c κs. search needs)
+    (λ c. search needs)
     (λ c κs. search needs)
     (λ c. search needs)
     (λ c. search needs)

@@ -6,4 +6,4 @@ use Rattle.inspect.proofs.buffers.rows.Statement.{statement}
 use Rattle.inspect.proofs.buffers.rows.Tie as tie
 
 pub rows-spec : {M : Type 1} → statement M
-rows-spec = tie.close (tie.spec (λ c. sym (length-replicate {0} {A = ℕ} 1048576 0)))
+rows-spec = tie.close (tie.spec (λ c. sym (length-replicate {0} {A = ℕ} 1310720 0)))
