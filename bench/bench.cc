@@ -55,13 +55,13 @@ static size_t slots(const Bytes &m, size_t used)
 {
     size_t found = 0;
     for (size_t r = 0; r < used; r++) {
-        const uint32_t *w = &rows[r * 8];
+        const uint32_t *w = &rows[r * TANKLEFROST_ROW_WORDS];
         bool plain = w[7] == 0;
         if (w[0] == 7 && plain)
             for (size_t i = 0; i < w[5]; i++, found++) sink = sink + tanklefrost_packed_slot(rows.data(), rows.size(), (uint32_t)m.size(), r, &i, 1).first;
         if (w[0] == 8 && plain)
             for (size_t leaf = r + 1; leaf < w[6]; leaf++)
-                if (rows[leaf * 8] == 9)
+                if (rows[leaf * TANKLEFROST_ROW_WORDS] == 9)
                     for (size_t i = 0; i < w[5]; i++, found++) sink = sink + tanklefrost_table_slot(rows.data(), rows.size(), (uint32_t)m.size(), r, leaf, &i, 1).first;
     }
     return found;
@@ -75,7 +75,7 @@ static double placeTime(const Bytes &m) { return best([&] { sink = sink + tankle
 // Lends as many rows as the message needs.
 static tanklefrost_reading lend(const Bytes &m)
 {
-    rows.resize(8 * (size_t)tanklefrost_answer_rows(tanklefrost_rows_needed(m.data(), m.size())));
+    rows.resize(TANKLEFROST_ROW_WORDS * (size_t)tanklefrost_answer_rows(tanklefrost_rows_needed(m.data(), m.size())));
     return tanklefrost_read(TANKLEFROST_NEW_EDITION, m.data(), m.size(), rows.data(), rows.size());
 }
 

@@ -9,7 +9,7 @@
  *   way, always ends, has no state, takes no memory from a heap, and may be called from several threads at once.
  * - It reads and writes only the memory that it is lent, for the length that goes with each pointer, and only while it runs.
  * - A pointer with length 0 is not read or written through. It may be NULL, and NULL may go with length 0 only.
- * - Lengths of bytes count bytes, lengths of rows count 32-bit words (eight to a row), lengths of indexes count indexes. Words and
+ * - Lengths of bytes count bytes, lengths of rows count 32-bit words (ten to a row), lengths of indexes count indexes. Words and
  *   indexes must be aligned as their types are. What is written (rows and output) must not overlap what else is lent.
  * - Rows, records, tables, leaves, indexes and places count from 0.
  *
@@ -67,9 +67,25 @@ enum {
     TANKLEFROST_NEW_EDITION = 2
 };
 
-/* A message's highest length, and the words of a row. A message of n bytes has at most n rows. */
+/* A message's highest length, and the words of a row. A message of n bytes has at most n rows, so 10n words are always enough. */
 #define TANKLEFROST_LIMIT 1048576
-#define TANKLEFROST_ROW_WORDS 8
+#define TANKLEFROST_ROW_WORDS 10
+
+/* The words of a row by name: word k of row r is rows[r * TANKLEFROST_ROW_WORDS + k]. The link is the row after the token's last
+ * descendant. The parent is the row of the token that holds this one, plus one; 0 for the outermost. The depth is 0 for the outermost, and
+ * one more than the parent's elsewhere. */
+enum {
+    TANKLEFROST_WORD_KIND = 0,
+    TANKLEFROST_WORD_MARK = 1,
+    TANKLEFROST_WORD_FIRST = 2,
+    TANKLEFROST_WORD_PAYLOAD = 3,
+    TANKLEFROST_WORD_LENGTH = 4,
+    TANKLEFROST_WORD_COUNT = 5,
+    TANKLEFROST_WORD_LINK = 6,
+    TANKLEFROST_WORD_ORDER = 7,
+    TANKLEFROST_WORD_PARENT = 8,
+    TANKLEFROST_WORD_DEPTH = 9
+};
 
 /* ---- The panel: calls with the message only, by the new edition. Rows count as enough, so none of them answers 8.
  *
@@ -110,12 +126,14 @@ struct tanklefrost_reading {
     size_t amount;
 };
 
-/* Reads a message by an edition into lent rows: number, place and rows used. A table of row_words words has row_words / 8 rows; tokens
+/* Reads a message by an edition into lent rows: number, place and rows used. A table of row_words words has row_words / 10 rows; tokens
  * that don't fit are refused with 8. The rows are filled from the first on and all other words are zero, on refusal all words are.
  * An edition that is neither TANKLEFROST_OLD_EDITION nor TANKLEFROST_NEW_EDITION is 12 at 0, whatever the message is.
  *
  * Words of a row: 0 kind, 1 mark, 2 first byte of the token, 3 first payload byte, 4 payload length, 5 count, 6 row after the token's
- * last descendant, 7 order.
+ * last descendant, 7 order, 8 the parent's row plus one (0 for the outermost), 9 depth (0 for the outermost). A key and its value have the
+ * object as parent, the keys and kinds of a schema the record or fixed array that they stand in, a table's schema and its dimensions the
+ * table, a packed array's dimensions the array.
  *
  * An extension is one row of kind 13 and mark 69 (`E`): words 3 and 4 are its payload's first byte and length, and word 5 is its id, up to
  * 4,294,967,295 (in all other rows word 5 is at most 1,048,576). The id's mark is the message's byte at word 2 + 1. Ids 1 to 10 have
@@ -141,7 +159,9 @@ struct tanklefrost_reading tanklefrost_rewrite(
 /* ---- The calls over rows. They change nothing.
  *
  * Rows may come from anywhere: what they hold is tested on the way, and answered with 12 where it doesn't fit. For the rows and the
- * message of one tanklefrost_read that answered 0, these calls answer what the message holds. NULL with length 0 is a table of no rows:
+ * message of one tanklefrost_read that answered 0, these calls answer what the message holds. The slot calls, and those for the value or text
+ * in a slot, ask each row on their way, but the one named, for its parent (word 8), and answer 12 where it isn't the row that they came
+ * through; the others don't, and none reads the depth (word 9). NULL with length 0 is a table of no rows:
  * 12 for every row. NULL with length 0 for the message is a message of no bytes; for indexes, no index; for a name, the empty name. */
 
 /* The number, and a slot's or a text's first byte in the message and its width in bytes; both are 0 beside a refusal. */

@@ -48,8 +48,8 @@ static int rewrites(const char *hex, const char *house)
 
 static void extensions(void)
 {
-    static const uint32_t opaque[] = {13, 69, 0, 5, 3, 200, 1, 0}, highest[] = {13, 69, 0, 8, 0, UINT32_MAX, 1, 0};
-    static const uint32_t sized[] = {13, 69, 2, 11, 4, 1, 3, 0}, empty[] = {13, 69, 4, 9, 0, 0, 3, 0};
+    static const uint32_t opaque[] = {13, 69, 0, 5, 3, 200, 1, 0, 0, 0}, highest[] = {13, 69, 0, 8, 0, UINT32_MAX, 1, 0, 0, 0};
+    static const uint32_t sized[] = {13, 69, 2, 11, 4, 1, 3, 0, 1, 1}, empty[] = {13, 69, 4, 9, 0, 0, 3, 0, 1, 1};
     struct tanklefrost_member found;
 
     /* payload, id and the id's mark, from the row */

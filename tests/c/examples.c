@@ -11,6 +11,11 @@ static void message(const char *hex)
     put_hex(&m, hex);
 }
 
+static uint32_t row_word(size_t row, size_t k)
+{
+    return rows[row * TANKLEFROST_ROW_WORDS + k];
+}
+
 /* Number and place, by the panel's calls and by reading with rows enough. */
 static int answers(const char *hex, uint32_t number, size_t place)
 {
@@ -116,7 +121,8 @@ static void particle_slots(char opening, char mark, const size_t *widths, size_t
     size_t words = sizeof rows / sizeof *rows, begin = rows[3], offset = 0, leaf, r;
     for (leaf = 0; leaf < PARTICLE_LEAVES; leaf++) {
         size_t row = X_ROW + 2 * leaf;
-        CHECK(rows[8 * row] == 9 && rows[8 * row + 3] == offset && rows[8 * row + 4] == widths[leaf]);
+        CHECK(row_word(row, TANKLEFROST_WORD_KIND) == 9 && row_word(row, TANKLEFROST_WORD_PAYLOAD) == offset
+            && row_word(row, TANKLEFROST_WORD_LENGTH) == widths[leaf]);
         for (r = 0; r < PARTICLES; r++) {
             size_t first = begin + (opening == '[' ? r * size + offset : PARTICLES * offset + r * widths[leaf]);
             struct tanklefrost_place p = tanklefrost_table_slot(rows, words, (uint32_t)m.size, 0, row, &r, 1);
@@ -146,7 +152,7 @@ static void records_of_13_and_21(void)
         particles(opening, mark, widths);
         CHECK(is_reading(tanklefrost_read(edition, m.at, m.size, rows, sizeof rows / sizeof *rows), 0, 0, 10));
         CHECK(rows[1] == (uint32_t)opening && rows[4] == PARTICLES * size && rows[3] + rows[4] == m.size && rows[5] == PARTICLES);
-        CHECK(rows[8] == 10 && rows[8 + 4] == size && rows[8 + 5] == PARTICLE_LEAVES);
+        CHECK(row_word(1, TANKLEFROST_WORD_KIND) == 10 && row_word(1, TANKLEFROST_WORD_LENGTH) == size && row_word(1, TANKLEFROST_WORD_COUNT) == PARTICLE_LEAVES);
         particle_slots(opening, mark, widths, size);
         CHECK(tanklefrost_slot(m.at, m.size - 1, 0, 0, 0) == TANKLEFROST_ENDS_TOO_EARLY);
         put_byte(&m, 0);
@@ -154,12 +160,36 @@ static void records_of_13_and_21(void)
     }
 }
 
+/* Of example 12's rows, with each parent and each depth changed in turn: a slot is refused with 12 where a row on the way to its leaf names
+ * another parent, but for the table's row, which is named, and those after the leaf; a depth is never asked; and lookup asks neither. */
+static void parents_asked(void)
+{
+    size_t words = sizeof rows / sizeof *rows, row, leaf, zero = 0;
+    for (row = 0; row < 6; row++) {
+        uint32_t *parent = &rows[row * TANKLEFROST_ROW_WORDS + TANKLEFROST_WORD_PARENT], *depth = parent + 1, own = *parent, changed;
+        for (changed = 0; changed < 8; changed++) {
+            *parent = changed;
+            for (leaf = 3; leaf < 6; leaf += 2) {
+                struct tanklefrost_place p = tanklefrost_table_slot(rows, words, (uint32_t)m.size, 0, leaf, &zero, 1);
+                struct tanklefrost_scalar v = tanklefrost_value_in_table(m.at, m.size, rows, words, 0, leaf, &zero, 1);
+                int followed = changed == own || row == 0 || leaf < row;
+                CHECK(p.number == (followed ? 0 : TANKLEFROST_ROWS_DONT_FIT) && v.number == p.number && p.width == (followed ? 1u : 0u));
+            }
+            CHECK(tanklefrost_lookup(m.at, m.size, rows, words, 1, (const uint8_t *)"b", 1).row == 5);
+        }
+        *parent = own;
+        *depth += 3;
+        CHECK(tanklefrost_table_slot(rows, words, (uint32_t)m.size, 0, 5, &zero, 1).number == 0);
+        *depth -= 3;
+    }
+}
+
 int main(void)
 {
-    static const uint32_t null_row[] = {1, 90, 0, 1, 0, 0, 1, 0};
+    static const uint32_t null_row[] = {1, 90, 0, 1, 0, 0, 1, 0, 0, 0};
     static const uint32_t table_rows[] = {
-        8, 91, 0, 15, 4, 2, 6, 0, 10, 123, 2, 0, 2, 2, 6, 0, 4, 83, 3, 5, 1, 0, 3, 0,
-        9, 85, 6, 0, 1, 0, 4, 0,  4, 83, 7, 9, 1, 0, 5, 0,   9, 84, 10, 1, 1, 0, 6, 0};
+        8, 91, 0, 15, 4, 2, 6, 0, 0, 0, 10, 123, 2, 0, 2, 2, 6, 0, 1, 1, 4, 83, 3, 5, 1, 0, 3, 0, 2, 2,
+        9, 85, 6, 0, 1, 0, 4, 0, 2, 2,  4, 83, 7, 9, 1, 0, 5, 0, 2, 2,   9, 84, 10, 1, 1, 0, 6, 0, 2, 2};
     size_t one = 1;
     struct tanklefrost_place p;
     struct tanklefrost_scalar v;
@@ -178,6 +208,7 @@ int main(void)
     CHECK(at_one_zero("5B2455235B690269035D010203040506", 13, 4));
     CHECK(at_one_zero("5B2455235B5B690269035D5D010203040506", 13, 2));
     CHECK(answers("5B247B55016155550162547D23550205540646", 0, 0) && has_rows(table_rows, 6));
+    parents_asked();
 
     /* record 1 of b, by rows and by columns; the leaf's name leads to its row */
     slot = tanklefrost_slot(m.at, m.size, 0, 1, 1);

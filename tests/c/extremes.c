@@ -34,33 +34,35 @@ static void long_messages(void)
     take_back(l);
 }
 
+enum { FOUR_ROWS = 4 * TANKLEFROST_ROW_WORDS };
+
 static void high_numbers(void)
 {
     static const uint8_t table[] = {'[', '$', '{', 'U', 1, 'a', 'U', '}', '#', 'U', 2, 5, 6};
     static const uint8_t array[] = {'[', '$', 'U', '#', 'U', 2, 5, 6};
-    uint32_t rows[32];
+    uint32_t rows[FOUR_ROWS];
     size_t zero = 0, most = SIZE_MAX;
     struct tanklefrost_member m;
 
     CHECK(tanklefrost_slot(table, sizeof table, SIZE_MAX, 0, 0) == TANKLEFROST_NOT_THERE);
     CHECK(tanklefrost_slot(table, sizeof table, 0, SIZE_MAX, 0) == TANKLEFROST_NOT_THERE);
     CHECK(tanklefrost_slot(table, sizeof table, 0, 0, SIZE_MAX) == TANKLEFROST_NOT_THERE);
-    CHECK(tanklefrost_read(TANKLEFROST_NEW_EDITION, table, sizeof table, rows, 32).number == 0);
-    CHECK(is_place(tanklefrost_table_slot(rows, 32, sizeof table, 0, 3, &zero, 1), 0, 11, 1));
-    CHECK(is_place(tanklefrost_table_slot(rows, 32, sizeof table, SIZE_MAX, 3, &zero, 1), TANKLEFROST_ROWS_DONT_FIT, 0, 0));
-    CHECK(is_place(tanklefrost_table_slot(rows, 32, sizeof table, 0, SIZE_MAX, &zero, 1), TANKLEFROST_ROWS_DONT_FIT, 0, 0));
-    CHECK(is_place(tanklefrost_table_slot(rows, 32, sizeof table, 0, 3, &most, 1), TANKLEFROST_NOT_THERE, 0, 0));
-    CHECK(is_refused(tanklefrost_value_in_table(table, sizeof table, rows, 32, 0, 3, &most, 1), TANKLEFROST_NOT_THERE));
-    CHECK(is_refused(tanklefrost_value_in_table(table, sizeof table, rows, 32, 0, SIZE_MAX, &zero, 1), TANKLEFROST_ROWS_DONT_FIT));
-    CHECK(is_place(tanklefrost_text_in_table(table, sizeof table, rows, 32, 0, 3, &zero, 1), TANKLEFROST_ROWS_DONT_FIT, 0, 0));
-    CHECK(is_place(tanklefrost_text_at_row(table, sizeof table, rows, 32, SIZE_MAX), TANKLEFROST_ROWS_DONT_FIT, 0, 0));
-    CHECK(is_refused(tanklefrost_value_at_row(table, sizeof table, rows, 32, SIZE_MAX), TANKLEFROST_ROWS_DONT_FIT));
-    m = tanklefrost_lookup(table, sizeof table, rows, 32, SIZE_MAX, (const uint8_t *)"a", 1);
+    CHECK(tanklefrost_read(TANKLEFROST_NEW_EDITION, table, sizeof table, rows, FOUR_ROWS).number == 0);
+    CHECK(is_place(tanklefrost_table_slot(rows, FOUR_ROWS, sizeof table, 0, 3, &zero, 1), 0, 11, 1));
+    CHECK(is_place(tanklefrost_table_slot(rows, FOUR_ROWS, sizeof table, SIZE_MAX, 3, &zero, 1), TANKLEFROST_ROWS_DONT_FIT, 0, 0));
+    CHECK(is_place(tanklefrost_table_slot(rows, FOUR_ROWS, sizeof table, 0, SIZE_MAX, &zero, 1), TANKLEFROST_ROWS_DONT_FIT, 0, 0));
+    CHECK(is_place(tanklefrost_table_slot(rows, FOUR_ROWS, sizeof table, 0, 3, &most, 1), TANKLEFROST_NOT_THERE, 0, 0));
+    CHECK(is_refused(tanklefrost_value_in_table(table, sizeof table, rows, FOUR_ROWS, 0, 3, &most, 1), TANKLEFROST_NOT_THERE));
+    CHECK(is_refused(tanklefrost_value_in_table(table, sizeof table, rows, FOUR_ROWS, 0, SIZE_MAX, &zero, 1), TANKLEFROST_ROWS_DONT_FIT));
+    CHECK(is_place(tanklefrost_text_in_table(table, sizeof table, rows, FOUR_ROWS, 0, 3, &zero, 1), TANKLEFROST_ROWS_DONT_FIT, 0, 0));
+    CHECK(is_place(tanklefrost_text_at_row(table, sizeof table, rows, FOUR_ROWS, SIZE_MAX), TANKLEFROST_ROWS_DONT_FIT, 0, 0));
+    CHECK(is_refused(tanklefrost_value_at_row(table, sizeof table, rows, FOUR_ROWS, SIZE_MAX), TANKLEFROST_ROWS_DONT_FIT));
+    m = tanklefrost_lookup(table, sizeof table, rows, FOUR_ROWS, SIZE_MAX, (const uint8_t *)"a", 1);
     CHECK(m.number == TANKLEFROST_ROWS_DONT_FIT && m.row == 0);
-    CHECK(tanklefrost_read(TANKLEFROST_NEW_EDITION, array, sizeof array, rows, 32).number == 0);
-    CHECK(is_place(tanklefrost_packed_slot(rows, 32, sizeof array, 0, &most, 1), TANKLEFROST_NOT_THERE, 0, 0));
-    CHECK(is_place(tanklefrost_packed_slot(rows, 32, 0, 0, &zero, 1), TANKLEFROST_ROWS_DONT_FIT, 0, 0));
-    CHECK(is_place(tanklefrost_packed_slot(rows, 32, UINT32_MAX, 0, &zero, 1), 0, 6, 1));
+    CHECK(tanklefrost_read(TANKLEFROST_NEW_EDITION, array, sizeof array, rows, FOUR_ROWS).number == 0);
+    CHECK(is_place(tanklefrost_packed_slot(rows, FOUR_ROWS, sizeof array, 0, &most, 1), TANKLEFROST_NOT_THERE, 0, 0));
+    CHECK(is_place(tanklefrost_packed_slot(rows, FOUR_ROWS, 0, 0, &zero, 1), TANKLEFROST_ROWS_DONT_FIT, 0, 0));
+    CHECK(is_place(tanklefrost_packed_slot(rows, FOUR_ROWS, UINT32_MAX, 0, &zero, 1), 0, 6, 1));
 }
 
 static uint64_t state = 88172645463325252u;
@@ -111,11 +113,12 @@ static void made_up(int at_end)
     for (i = 0; i < sizeof words / sizeof *words; i++) {
         size_t word = i % TANKLEFROST_ROW_WORDS, own = i / TANKLEFROST_ROW_WORDS;
         words[i] = chance(20) == 0 ? UINT32_MAX - chance(3)
-            : word == 0 ? 1 + chance(13)
-            : word == 1 ? marks[chance(11)]
-            : word == 6 ? (uint32_t)own + chance(4)
-            : word == 7 ? chance(3)
-                        : chance(70);
+            : word == TANKLEFROST_WORD_KIND   ? 1 + chance(13)
+            : word == TANKLEFROST_WORD_MARK   ? marks[chance(11)]
+            : word == TANKLEFROST_WORD_LINK   ? (uint32_t)own + chance(4)
+            : word == TANKLEFROST_WORD_ORDER  ? chance(3)
+            : word == TANKLEFROST_WORD_PARENT ? chance((uint32_t)own + 1)
+                                              : chance(70);
     }
     for (i = 0; i < 2; i++) {
         indexes[i] = chance(3);

@@ -16,7 +16,7 @@ static int is_refused(struct tanklefrost_scalar a, uint32_t number)
 
 int main(void)
 {
-    uint32_t rows[8];
+    uint32_t rows[TANKLEFROST_ROW_WORDS];
     size_t zero = 0;
     struct tanklefrost_member m;
 
@@ -26,7 +26,7 @@ int main(void)
     CHECK(tanklefrost_slot(NULL, 0, 0, 0, 0) == TANKLEFROST_ENDS_TOO_EARLY);
     CHECK(is_reading(tanklefrost_read(TANKLEFROST_NEW_EDITION, NULL, 0, NULL, 0), TANKLEFROST_ENDS_TOO_EARLY, 0, 0));
     memset(rows, GUARD, sizeof rows);
-    CHECK(is_reading(tanklefrost_read(TANKLEFROST_NEW_EDITION, NULL, 0, rows, 8), TANKLEFROST_ENDS_TOO_EARLY, 0, 0));
+    CHECK(is_reading(tanklefrost_read(TANKLEFROST_NEW_EDITION, NULL, 0, rows, TANKLEFROST_ROW_WORDS), TANKLEFROST_ENDS_TOO_EARLY, 0, 0));
     CHECK(rows[0] == 0 && memcmp(rows, rows + 1, sizeof rows - sizeof rows[0]) == 0);
     CHECK(is_reading(tanklefrost_rewrite(TANKLEFROST_NEW_EDITION, NULL, 0, NULL, 0, NULL, 0), TANKLEFROST_ENDS_TOO_EARLY, 0, 0));
 
@@ -49,18 +49,18 @@ int main(void)
     CHECK(m.number == TANKLEFROST_ROWS_DONT_FIT && m.row == 0);
 
     /* rows, and NULL for the rest: no index, no bytes, the empty name */
-    CHECK(is_reading(tanklefrost_read(TANKLEFROST_NEW_EDITION, message, sizeof message, rows, 8), 0, 0, 1));
-    CHECK(is_place(tanklefrost_packed_slot(rows, 8, sizeof message, 0, NULL, 0), TANKLEFROST_NOT_THERE, 0, 0));
-    CHECK(is_place(tanklefrost_packed_slot(rows, 8, sizeof message, 0, &zero, 1), 0, 6, 1));
-    CHECK(is_refused(tanklefrost_value_in_packed(message, sizeof message, rows, 8, 0, NULL, 0), TANKLEFROST_NOT_THERE));
-    CHECK(is_refused(tanklefrost_value_in_packed(NULL, 0, rows, 8, 0, &zero, 1), TANKLEFROST_ROWS_DONT_FIT));
-    CHECK(is_reading(tanklefrost_read(TANKLEFROST_NEW_EDITION, (const uint8_t *)"{}", 2, rows, 8), 0, 0, 1));
-    m = tanklefrost_lookup(NULL, 0, rows, 8, 0, NULL, 0);
+    CHECK(is_reading(tanklefrost_read(TANKLEFROST_NEW_EDITION, message, sizeof message, rows, TANKLEFROST_ROW_WORDS), 0, 0, 1));
+    CHECK(is_place(tanklefrost_packed_slot(rows, TANKLEFROST_ROW_WORDS, sizeof message, 0, NULL, 0), TANKLEFROST_NOT_THERE, 0, 0));
+    CHECK(is_place(tanklefrost_packed_slot(rows, TANKLEFROST_ROW_WORDS, sizeof message, 0, &zero, 1), 0, 6, 1));
+    CHECK(is_refused(tanklefrost_value_in_packed(message, sizeof message, rows, TANKLEFROST_ROW_WORDS, 0, NULL, 0), TANKLEFROST_NOT_THERE));
+    CHECK(is_refused(tanklefrost_value_in_packed(NULL, 0, rows, TANKLEFROST_ROW_WORDS, 0, &zero, 1), TANKLEFROST_ROWS_DONT_FIT));
+    CHECK(is_reading(tanklefrost_read(TANKLEFROST_NEW_EDITION, (const uint8_t *)"{}", 2, rows, TANKLEFROST_ROW_WORDS), 0, 0, 1));
+    m = tanklefrost_lookup(NULL, 0, rows, TANKLEFROST_ROW_WORDS, 0, NULL, 0);
     CHECK(m.number == TANKLEFROST_NOT_THERE && m.row == 0);
 
     /* rows, and no room for the house form */
     memset(rows, GUARD, sizeof rows);
-    CHECK(is_reading(tanklefrost_rewrite(TANKLEFROST_NEW_EDITION, message, sizeof message, rows, 8, NULL, 0), TANKLEFROST_OUTPUT_TOO_LONG, 0, 0));
+    CHECK(is_reading(tanklefrost_rewrite(TANKLEFROST_NEW_EDITION, message, sizeof message, rows, TANKLEFROST_ROW_WORDS, NULL, 0), TANKLEFROST_OUTPUT_TOO_LONG, 0, 0));
     CHECK(rows[0] == 0 && memcmp(rows, rows + 1, sizeof rows - sizeof rows[0]) == 0);
     return report("nulls");
 }
