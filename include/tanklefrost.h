@@ -131,9 +131,9 @@ struct tanklefrost_reading {
  * An edition that is neither TANKLEFROST_OLD_EDITION nor TANKLEFROST_NEW_EDITION is 12 at 0, whatever the message is.
  *
  * Words of a row: 0 kind, 1 mark, 2 first byte of the token, 3 first payload byte, 4 payload length, 5 count, 6 row after the token's
- * last descendant, 7 order, 8 the parent's row plus one (0 for the outermost), 9 depth (0 for the outermost). A key and its value have the
- * object as parent, the keys and kinds of a schema the record or fixed array that they stand in, a table's schema and its dimensions the
- * table, a packed array's dimensions the array.
+ * last descendant, 7 order, 8 the parent's row plus one (0 for the outermost), 9 depth (0 for the outermost). An array is the
+ * parent of its values, an object of its keys and of their values alike, a record or fixed array of a schema of its keys and kinds, a table
+ * of its schema and its dimensions, a packed array of its dimensions.
  *
  * An extension is one row of kind 13 and mark 69 (`E`): words 3 and 4 are its payload's first byte and length, and word 5 is its id, up to
  * 4,294,967,295 (in all other rows word 5 is at most 1,048,576). The id's mark is the message's byte at word 2 + 1. Ids 1 to 10 have
@@ -159,10 +159,11 @@ struct tanklefrost_reading tanklefrost_rewrite(
 /* ---- The calls over rows. They change nothing.
  *
  * Rows may come from anywhere: what they hold is tested on the way, and answered with 12 where it doesn't fit. For the rows and the
- * message of one tanklefrost_read that answered 0, these calls answer what the message holds. The slot calls, and those for the value or text
- * in a slot, ask each row on their way, but the one named, for its parent (word 8), and answer 12 where it isn't the row that they came
- * through; the others don't, and none reads the depth (word 9). NULL with length 0 is a table of no rows:
- * 12 for every row. NULL with length 0 for the message is a message of no bytes; for indexes, no index; for a name, the empty name. */
+ * message of one tanklefrost_read that answered 0, these calls answer what the message holds. The slot calls, and those for the value or
+ * text in a slot, ask each row on their way, but the packed array's or table's that is named, for its parent (word 8), and answer 12 where
+ * it isn't the container in which they meet the row; the other calls don't, and none reads the depth (word 9). NULL with length 0 is a
+ * table of no rows: 12 for every row. NULL with length 0 for the message is a message of no bytes; for indexes, no index; for a name, the
+ * empty name. */
 
 /* The number, and a slot's or a text's first byte in the message and its width in bytes; both are 0 beside a refusal. */
 struct tanklefrost_place {

@@ -4,22 +4,21 @@
     tests/vectors.py read FILE...    adds lines of reading to crates/vectors/stdin and stdout
     tests/vectors.py house FILE...   adds lines of rewriting to crates/house/stdin and stdout
     tests/vectors.py calls FILE...   adds lines of calls to crates/calls/stdin and stdout
-    tests/vectors.py layout WORDS    lays the rows of all stored lines, which have so many words, out anew
+    tests/vectors.py layout 8        lays the rows of all stored lines, which have eight words, out anew
 
 A file has a line for each question, with its answer after a bar; `-` stands for no bytes, no words or nothing asked, and a line that begins
 with `#` is a comment:
 
     read     EDITION HEX ROWS-LENT | NUMBER PLACE ROWS-USED | ROW / ROW / ...
-    house    EDITION HEX ROWS-LENT BYTES-LENT | NUMBER PLACE BYTES-WRITTEN | HEX
+    house    EDITION HEX ROWS-LENT BYTES-LENT | NUMBER PLACE BYTES-WRITTEN | HEX | ...
     calls    CALL HEX WORDS ARGUMENTS | ANSWER
 
 EDITION is old or new. A row is its words with a comma between two. CALL is address or packedvalue (row, indexes), table, tablevalue or
 tabletext (row, leaf row, indexes), value or text (row), or lookup (row, name in hex, and a wish, of which only `first` is stored, since the
-program has no other). A question that is stored already is not added again, and its answer is not changed.
+program has no other); other calls are passed over. A question that is stored already is not added again, and must have the stored answer.
 
 `layout` works out the words that the stored rows lack from those that they have, by nothing but document 01 and the requests: `laid_out`
-is the one place that knows how. The programs' own answers are never asked. From rows of eight words, as they were before request No. 8:
-`layout 8`.
+is the one place that knows how. The programs' own answers are never asked. Rows had eight words before request No. 8.
 """
 import os
 import sys
@@ -88,6 +87,8 @@ def of_house(line):
 def of_call(line):
     question, answer = asked(line)
     call, message, words, *rest = question.split()
+    if call not in CALLS:
+        return None
     row, leaf, indexes, name = rest[0], "-", "-", "-"
     if call in ("address", "packedvalue"):
         indexes = rest[1]
@@ -103,16 +104,18 @@ def of_call(line):
 def add(crate, line_of, files):
     """Adds the lines of files to what a program has stored."""
     questions, answers = stored(crate, "stdin"), stored(crate, "stdout")
-    known, passed = set(questions), 0
+    known, passed = dict(zip(questions, answers)), 0
     for file in files:
         for line in open(file).read().split("\n"):
             if not line or line.startswith("#"):
                 continue
             pair = line_of(line)
             if pair is None or pair[0] in known:
+                if pair and known[pair[0]] != pair[1]:
+                    sys.exit(f"{file}: stored with another answer, {known[pair[0]]}: {line}")
                 passed += 1
                 continue
-            known.add(pair[0])
+            known[pair[0]] = pair[1]
             questions.append(pair[0])
             answers.append(pair[1])
     store(crate, "stdin", questions)
@@ -135,13 +138,16 @@ def laid_out(rows):
 
 def layout(wide):
     """Lays stored rows of so many words out anew."""
-    answers = stored("vectors", "stdout")
+    answers, found = stored("vectors", "stdout"), False
     for i, line in enumerate(answers):
         head, bar, rows = line.partition(" | ")
         if bar and rows.split(" / ")[0].count(",") + 1 == wide:
+            found = True
             rows, dots, _ = rows.partition(" / ...")
             laid = laid_out([[int(word) for word in row.split(",")] for row in rows.split(" / ")])
             answers[i] = head + bar + " / ".join(",".join(map(str, row)) for row in laid) + dots
+    if not found:
+        sys.exit(f"no stored row has {wide} words")
     store("vectors", "stdout", answers)
     questions = stored("calls", "stdin")
     for i, line in enumerate(questions):

@@ -161,7 +161,7 @@ static void records_of_13_and_21(void)
 }
 
 /* Of example 12's rows, with each parent and each depth changed in turn: a slot is refused with 12 where a row on the way to its leaf names
- * another parent, but for the table's row, which is named, and those after the leaf; a depth is never asked; and lookup asks neither. */
+ * another parent, but for the table's row, which is named, and those after the leaf; a depth is never asked; lookup asks neither, nor does the text at a row. */
 static void parents_asked(void)
 {
     size_t words = sizeof rows / sizeof *rows, row, leaf, zero = 0;
@@ -176,10 +176,12 @@ static void parents_asked(void)
                 CHECK(p.number == (followed ? 0 : TANKLEFROST_ROWS_DONT_FIT) && v.number == p.number && p.width == (followed ? 1u : 0u));
             }
             CHECK(tanklefrost_lookup(m.at, m.size, rows, words, 1, (const uint8_t *)"b", 1).row == 5);
+            CHECK(tanklefrost_text_at_row(m.at, m.size, rows, words, 4).number == 0);
         }
         *parent = own;
         *depth += 3;
         CHECK(tanklefrost_table_slot(rows, words, (uint32_t)m.size, 0, 5, &zero, 1).number == 0);
+        CHECK(tanklefrost_lookup(m.at, m.size, rows, words, 1, (const uint8_t *)"b", 1).row == 5);
         *depth -= 3;
     }
 }

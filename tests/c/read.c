@@ -51,7 +51,7 @@ int main(void)
         reads(edition, &m, lent_rows, (lines + 5) % TANKLEFROST_ROW_WORDS, 1, expected);
         lines++;
     }
-    CHECK(lines > 4700 && feof(in));
+    CHECK(lines > 5900 && feof(in));
     fclose(in);
     fclose(out);
     free(m.at);

@@ -92,7 +92,7 @@ int main(void)
         }
         lines++;
     }
-    CHECK(lines > 2300 && feof(in));
+    CHECK(lines > 3600 && feof(in));
     fclose(in);
     fclose(out);
     free(m.at);

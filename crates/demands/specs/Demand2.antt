@@ -2,10 +2,10 @@
 --
 -- In plain words. The reader accepts exactly what the rules allow, and lists it as they say. The rules are one definition, which goes
 -- through the message from its first byte to its last; the reader answers what it answers, for every message. What is listed is this: a row
--- for each token, in the order of the message, and nothing else. Each row says what its token is and where it stands, and names the row of
--- the token that holds it; a token begins after the one before it and inside the message, and its payload lies inside the message too. All
--- further words are zero. Whether a message is accepted, and as what, is its own affair: another table that has the rows for it is filled
--- alike.
+-- for each token, in the order of the message, and nothing else. Each row says what its token is and where it stands, names the row of the
+-- token that holds it, if one does, and says how deep it is; a token begins after the one before it and inside the message, and its payload
+-- lies inside the message too. All further words are zero. Whether a message is accepted, and as what, is its own affair: another table
+-- that has the rows for it is filled alike.
 --
 -- The house form keeps the meaning. Rewriting an accepted message gives its house form, if the output has room for it. That is a message
 -- that is accepted by the same rules, in as many rows, and means the same; rewriting it again changes nothing. Two messages mean the same

@@ -15,7 +15,7 @@
 --
 -- Formally. `m` is any message, `lent` any words, and `grammar` any edition's; the message was read into `lent` by
 -- `grammar` and accepted, and `f` has its tokens. `afterReading m lent grammar` are the words after that. `proofs/Demand3` proves it of all of them.
-use Prim.Native.Nat.{ℕ, suc, _+_, _≤_, _<_}
+use Prim.Native.Nat.{ℕ, _+_, _≤_, _<_}
 use mathlib.Core.Path.{_≡_}
 use mathlib.Core.List.{List, List·Memᴰ}
 use mathlib.Core.Logic.{_↔_}
@@ -23,7 +23,7 @@ use lib.ListN.{length}
 use Rattle.format.specs.Grammars.{Grammar}
 use Rattle.format.specs.Outcome.{done}
 use Rattle.format.specs.Marks.{'[', left-brace}
-use Rattle.format.specs.Tokens.{Token, packed, table, Forest, node, size}
+use Rattle.format.specs.Tokens.{Token, packed, table, Forest, node}
 use Rattle.format.specs.Indexes.{numberIn}
 use Rattle.format.specs.Storage.{Slot, memberRow, dimensionsOf, storage}
 use Rattle.format.specs.Addresses.{Region}

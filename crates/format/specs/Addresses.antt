@@ -53,7 +53,7 @@ isMember r = isLeafRow r || (isSchema r || isFixed r)
 unfoldable pub isDimension : Row → Bool
 isDimension = isA dimension isInteger plainCount
 
--- a row that names this container as its parent
+-- a row that names this container as its parent (request No. 8), and fits
 unfoldable pub childOf : ℕ → (Row → Bool) → Row → Bool
 childOf container fits r = eqb (r .parent) (container + 1) && fits r
 

@@ -1,4 +1,5 @@
--- 01, "Checked examples": the twelve, with rows enough, as a list and one test; and some of extensions, for request No. 1.
+-- 01, "Checked examples": the twelve, with rows enough and, by request No. 8, ten words to a row, as a list and one test; and some of
+-- extensions, for request No. 1.
 -- `proofs/Examples` proves that all pass.
 use Prim.Native.Nat.{ℕ}
 use mathlib.Core.Bool.{Bool, true, false, not, _&&_}

@@ -1,4 +1,4 @@
--- 01, "Rows": the rows of a forest, the layout of a row, and the lent words that hold them.
+-- 01, "Rows", and request No. 8: the rows of a forest, the layout of a row, and the lent words that hold them.
 use Prim.Native.Nat.{ℕ, suc, _+_, _-_, _*_, _/_}
 use mathlib.Core.List.{List, [], _∷_, _++_}
 use lib.ListN.{length, getD, replicate}
@@ -61,7 +61,7 @@ rowAt ws row = record {
 unfoldable pub rowsIn : List ℕ → ℕ
 rowsIn ws = length ws / rowWords
 
--- a token's row, with its link
+-- a token's row, with its link and its ancestry
 unfoldable pub rowOf : Token → ℕ → Ancestry → Row
 rowOf t link a = record {
   kind = kindNumber (t .kind);
@@ -76,7 +76,7 @@ rowOf t link a = record {
   depth = a .depth;
 }
 
--- the rows of a forest from row n on, in message order
+-- the rows of a forest from row n on, in message order; a is the ancestry of the tokens that no other holds
 unfoldable pub rows : ℕ → Ancestry → Forest → List Row
 rows n a none = []
 rows n a (node t below after) =

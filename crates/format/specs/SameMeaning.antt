@@ -1,5 +1,6 @@
 -- 01, "House form": same meaning, 01's own term. Equal rows apart from words that go by the row's kind, and equal bytes in texts, keys,
 -- scalars and the payloads of kinds 7 and 8. Request No. 1: of an extension its id, the id's mark and its payload.
+-- Request No. 8: words 8 and 9 count in every row.
 use Prim.Native.Nat.{ℕ, suc}
 use mathlib.Core.Path.{_≡_}
 use mathlib.Core.Bool.{Bool}

@@ -84,7 +84,8 @@ pub fn message(number: u64, buffer: &mut [u8]) -> usize
 }
 
 // Draws how many rows are to be lent for a message of so many bytes: most often one for each byte; else few for the length, few, or
-// about as many as the deepest messages need. What is few is drawn in eighths of a row.
+// about as many as the deepest messages need.
+// All but the first are drawn in eighths of a row, so that each message keeps the rows that it had when a row was eight words.
 fn rows(pen: Pen, bytes: u32) -> Pen {
     let mut drawn = pen.draw(8);
     let choice = drawn.value;

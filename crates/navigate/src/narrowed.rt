@@ -15,7 +15,7 @@ pub const LEAF: usize = 4;
 
 const FIELD: usize = 3;
 
-// The parents: the table, its schema and the field, each by its row plus one.
+// The parents: the packed array or table, its schema and the field, each by its row plus one.
 const TABLE: u32 = 1;
 
 const SCHEMA: u32 = 2;

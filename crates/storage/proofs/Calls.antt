@@ -17,7 +17,7 @@ use Rattle.format.specs.Rows.{Ancestry, outermost, heldBy, rowAt, rowsIn, rowOf
 use Rattle.format.specs.Indexes.{inRange, numberIn}
 use Rattle.format.specs.Storage.{memberRow, dimensionsOf}
 use Rattle.format.specs.Addresses.{Region, isPacked, isTable, isSchema, childOf, along, seek, dimensions, inside, packedSlot, tableSlot}
-use Rattle.laws.specs.Places.{At, here, under, later}
+use Rattle.laws.specs.Places.{At}
 use Rattle.storage.specs.Places.{Rowed, Field, Filled}
 use Rattle.storage.specs.Addresses.{Address, inPacked, inTable, indexesOf, regionOf, Below, packedRow, tableLeaf}
 use Rattle.storage.specs.Verdicts.{Verdict, wrongRows, wrongIndexes, answered}

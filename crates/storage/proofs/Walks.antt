@@ -11,7 +11,7 @@ use Rattle.format.specs.Conditions.{if_then_else_, between}
 use Rattle.format.specs.Outcome.{fault, done, _>>=_, _>>_, guard}
 use Rattle.format.specs.Limits.{dimensionLimit}
 use Rattle.format.specs.Refusals.{rowsDontFit}
-use Rattle.format.specs.Tokens.{Token, Kind, kindNumber, plainCount, Forest, none, size, counts}
+use Rattle.format.specs.Tokens.{Token, Kind, kindNumber, plainCount, Forest, size, counts}
 use Rattle.format.specs.Rows.{Row, Ancestry, heldBy, rowAt, rowOf}
 use Rattle.format.specs.Bytes.{within}
 use Rattle.format.specs.Addresses.{isA, isDimension, childOf, along, dimensionsFrom, dimensions, inside}

@@ -8,7 +8,7 @@ ghost use Rattle.format.specs.Rows.{rowOf};
 ghost use Rattle.rows.specs.Row.{ancestryOf, store as storeIn};
 ghost use Rattle.tokens.specs.Answers.{Narrow, tokenOf};
 
-// A token: its row's words but the link.
+// A token: its row's words but the link, the parent and the depth.
 pub struct Entry {
     pub kind: Kind,
     pub mark: u8,
