@@ -19,7 +19,8 @@ ghost use Rattle.format.specs.Read.{read as readOf, readWhole, readInto, rowsUs
 ghost use Rattle.format.specs.Answers.{answered, grammarOf};
 ghost use Rattle.reader.specs.Message.{WholeMeets, WholeWithin, frontWords};
 
-// The message, with so many rows lent, of which those are stored that the table has.
+// The message, with so many rows lent, of which those are stored that the table has. It is lent on as a part of its own, so that its
+// pointer and length aren't loaded as one right after they were stored as two.
 fn read_core(edition: Edition, message: &[u8], rows: &mut [u32], lent: usize) -> Step
     ensures meets { λ r. ⌜ WholeMeets r (readOf (now (message .entry)) lent (grammarOf edition)) (now (rows .entry)) (now (rows .exit)) ⌝ }
     ensures bounds { λ r. ⌜ WholeWithin r lent ⌝ }
@@ -31,7 +32,7 @@ fn read_core(edition: Edition, message: &[u8], rows: &mut [u32], lent: usize) ->
     let at = skip(message, 0);
     match member(
         edition,
-        message,
+        &message[..end],
         rows,
         lent,
         VALUE_LEVELS,
