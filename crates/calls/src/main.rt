@@ -1,4 +1,6 @@
 // Runs the calls of standard input, a line each, and lists what they answer.
+#![tactic(auto)]
+
 mod answers;
 mod buffers;
 mod lists;

@@ -1,1 +1,2 @@
 // Laws about two messages that differ in some bytes alone. No code.
+#![tactic(auto)]

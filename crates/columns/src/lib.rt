@@ -1,4 +1,6 @@
 // The values of one leaf of a table, record after record.
+#![tactic(auto)]
+
 ghost use Rattle.std.specs.Prelude.{◌≡◌, true, false, List, ℕ, ◌+◌, ◌≤◌, min, length, get_or};
 ghost use Rattle.format.specs.Limits.{record_limit};
 ghost use Rattle.format.specs.Marks.{'H', '[', left_brace};

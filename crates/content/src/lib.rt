@@ -1,4 +1,6 @@
 // What the bytes under a mark may be: text, JSON numbers, chars, booleans.
+#![tactic(auto)]
+
 pub mod json;
 pub mod text;
 

@@ -1,4 +1,6 @@
 // Dimensions, each with a row, and their product.
+#![tactic(auto)]
+
 pub mod forms;
 pub mod products;
 

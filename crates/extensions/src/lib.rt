@@ -1,4 +1,6 @@
 // Extensions.
+#![tactic(auto)]
+
 ghost use Rattle.std.specs.Prelude.{◌≡◌, ◌+◌, ◌<◌, length};
 ghost use Rattle.format.specs.Extensions.{size_of, extension as extension_at};
 ghost use Rattle.rows.specs.Row.{ancestry_of};

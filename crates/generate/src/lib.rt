@@ -1,5 +1,7 @@
 // Messages made by chance, the same each time: every construct of document 01 and request No. 1, messages with faults, edited ones, and marks
 // without order. A message has a number, and a caller can have it again by that number.
+#![tactic(auto)]
+
 mod edits;
 mod extensions;
 mod integers;

@@ -1,4 +1,6 @@
 // Runs the rewriter on the messages of standard input, a line each, and lists what it answers.
+#![tactic(auto)]
+
 mod buffers;
 mod runs;
 mod show;

@@ -1,4 +1,6 @@
 // Indexes to the number of an element, and sums capped at the highest that a machine word holds.
+#![tactic(auto)]
+
 pub mod sums;
 
 ghost use Rattle.std.specs.Prelude.{◌≡◌, true, ◌+◌, ◌*◌};

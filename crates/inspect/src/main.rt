@@ -1,4 +1,6 @@
 // Shows BJData messages to a person: the verdict, the rows, the slots, the bytes, one address, a path of names, or the house form.
+#![tactic(auto)]
+
 mod buffers;
 mod files;
 mod messages;

@@ -1,4 +1,6 @@
 // What a member begins with: a token that is read whole, or a container and what follows its opening mark.
+#![tactic(auto)]
+
 pub mod headers;
 pub mod lists;
 pub mod starts;

@@ -1,4 +1,6 @@
 // Leaves of a schema, and what a record or a fixed array begins with.
+#![tactic(auto)]
+
 pub mod leaves;
 pub mod starts;
 

@@ -1,4 +1,6 @@
 // Lines of test data, as the programs read and write them.
+#![tactic(auto)]
+
 pub mod editions;
 pub mod numbers;
 pub mod show;

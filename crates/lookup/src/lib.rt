@@ -1,4 +1,6 @@
 // Lookup by name: the first member with equal bytes, in an object or a schema record.
+#![tactic(auto)]
+
 ghost use Rattle.std.specs.Prelude.{◌≡◌, ◌≤◌, length};
 ghost use Rattle.format.specs.Rows.{rows_in};
 ghost use Rattle.format.specs.Lookup.{find as find_in, lookup as lookup_in};

@@ -1,4 +1,6 @@
 // Lent memory, as the test programs fill it and look at it.
+#![tactic(auto)]
+
 ghost use Rattle.std.specs.Prelude.{◌≤◌};
 
 // The smaller of two numbers.

@@ -1,4 +1,6 @@
 // Ways through the rows of an accepted message: those that lead to a leaf, those that bytes belong to; and the room for slots.
+#![tactic(auto)]
+
 pub mod lengths;
 pub mod narrowed;
 pub mod room;

@@ -1,2 +1,4 @@
 // Arrays and objects, and what nests in them.
+#![tactic(auto)]
+
 pub mod values;

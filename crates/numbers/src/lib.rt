@@ -1,4 +1,6 @@
 // Numbers, bytes and words: each function has an answer for all arguments.
+#![tactic(auto)]
+
 ghost use Rattle.std.specs.Prelude.{◌≤◌};
 
 // The sum; the first number where it would be too large.

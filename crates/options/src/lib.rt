@@ -1,4 +1,6 @@
 // The command line of the program that shows messages: what it asks for, what is wrong with it, and help.
+#![tactic(auto)]
+
 pub mod arguments;
 pub mod help;
 pub mod lists;

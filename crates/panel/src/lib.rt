@@ -1,4 +1,6 @@
 // The panel's calls: what they answer from the message only, each as one 64-bit number. specs/Layout.antt says how its parts lie.
+#![tactic(auto)]
+
 ghost use Rattle.std.specs.Prelude.{◌≡◌, ◌<◌, ◌^◌};
 ghost use Rattle.format.specs.Answers.{first_and_width};
 ghost use Rattle.format.specs.Panel.{number_and_place, rows_needed, panel_slot};

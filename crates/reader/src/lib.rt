@@ -1,2 +1,4 @@
 // The reader: any bytes to an answer, and to rows.
+#![tactic(auto)]
+
 pub mod message;

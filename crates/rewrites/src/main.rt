@@ -1,5 +1,7 @@
 // Rewrites messages made by chance, reads each house form again with both readers, compares it with the message, and rewrites it
 // again.
+#![tactic(auto)]
+
 mod answers;
 mod buffers;
 mod forms;

@@ -1,4 +1,6 @@
 // Lent memory: the row table, which is 32-bit words, ten to a row, and bytes.
+#![tactic(auto)]
+
 ghost use Rattle.std.specs.Prelude.{◌≡◌, ◌+◌, ◌<◌, ◌≤◌, ◌^◌, length};
 ghost use Rattle.format.specs.Limits.{limit};
 ghost use Rattle.format.specs.Rows.{held_by, rows_in, row_at, word as word_in, zeros};

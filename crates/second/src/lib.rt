@@ -1,6 +1,8 @@
 // A second reader, written from document 01 and requests No. 1 and No. 8 apart from the first and in another shape, to be compared
 // with it: a machine with a stack of frames in place of functions that call each other. It shares the width of a mark with the first,
 // and nothing else.
+#![tactic(auto)]
+
 mod bytes;
 mod content;
 mod extension;

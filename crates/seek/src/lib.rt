@@ -1,5 +1,7 @@
 // Finds a table of an accepted message by its number, counted in message order, with no row table. One walk over the message, in the
 // reader's shape: the reader's leaves read what holds no others, and arrays and objects are walked into without being read before.
+#![tactic(auto)]
+
 ghost use Rattle.std.specs.Prelude.{◌≡◌};
 ghost use Rattle.format.specs.Outcome.{done};
 ghost use Rattle.format.specs.Tokens.{Forest};

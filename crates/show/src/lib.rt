@@ -1,4 +1,6 @@
 // What the programs show to a person: texts, values and bytes, put into blocks of output.
+#![tactic(auto)]
+
 pub mod dump;
 pub mod floats;
 pub mod quoted;

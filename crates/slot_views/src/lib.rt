@@ -1,4 +1,6 @@
 // The slots of an accepted message, one or all, and why an address has none.
+#![tactic(auto)]
+
 pub mod leaf_names;
 pub mod one_slot;
 pub mod reasons;

@@ -1,4 +1,6 @@
 // Asks for every slot of messages made by chance, and for addresses beside them; changes slots, and compares all others.
+#![tactic(auto)]
+
 mod buffers;
 mod changes;
 mod entries;

@@ -1,5 +1,7 @@
 // Tokens that hold no others, but extensions: scalars, texts, high-precision numbers and keys. A row is stored as far as the lent words
 // reach; refusal 8 goes by the number of rows lent, so a table of any length serves, and an empty one where only the answer is wanted.
+#![tactic(auto)]
+
 pub mod entry;
 pub mod scalars;
 

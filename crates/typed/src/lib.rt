@@ -1,4 +1,6 @@
 // Typed containers: packed arrays, tables and typed objects.
+#![tactic(auto)]
+
 pub mod container;
 pub mod packed;
 pub mod table;

@@ -1,4 +1,6 @@
 // Words, names and numbers, put into blocks of output.
+#![tactic(auto)]
+
 pub mod block;
 pub mod digits;
 pub mod names;

@@ -1,0 +1,9 @@
+-- `link`: word 6. Assumes nothing.
+use borrow.Author.Rules.{rules}
+use Rattle.format.specs.Rows.{row_at}
+use Rattle.rows.proofs.link.Goals as goal
+
+pub returns : goal.returns
+unfolding row_at
+returns c =
+    c.word.ensures.is
