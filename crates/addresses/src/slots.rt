@@ -17,14 +17,14 @@ use ways::links::{along, along_child};
 use ways::members::field;
 use ways::needs::Need;
 
-#[derive(Drop)]
+#[derive(Clone, Copy)]
 pub enum Slot {
     Refused(u32),
     At(u32, usize, usize),
 }
 
 // The number of an element or record in storage order, capped; or a refusal's number.
-#[derive(Drop)]
+#[derive(Clone, Copy)]
 pub enum Position {
     Refused(u32),
     At(usize),

@@ -2,7 +2,7 @@
 use lines::numbers::stand_at;
 
 // A call of the library.
-#[derive(Drop)]
+#[derive(Clone, Copy)]
 pub enum Call {
     PackedSlot,
     TableSlot,

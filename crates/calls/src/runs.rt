@@ -13,7 +13,7 @@ use texts::at_rows::{number_at_row, text_at_row};
 use values::at_rows::value_at_row;
 
 // What is asked for beside indexes and a name: a call, its row, and its leaf row.
-#[derive(Drop)]
+#[derive(Clone, Copy)]
 struct Asked {
     call: Call,
     row: usize,

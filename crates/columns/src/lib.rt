@@ -19,7 +19,7 @@ pub const FARTHEST: usize = 2_097_152;
 
 // How far a walk over a schema's bytes has come: the next byte, the place of the next leaf's first value, and the least place of a
 // wrong value so far.
-#[derive(Drop)]
+#[derive(Clone, Copy)]
 pub struct Walk {
     pub next: usize,
     pub place: usize,

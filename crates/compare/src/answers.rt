@@ -3,7 +3,7 @@ use format::answers::Answer;
 use format::marks::Mark;
 
 // An answer as numbers: number, place and rows used.
-#[derive(Drop)]
+#[derive(Clone, Copy)]
 pub struct Numbers {
     pub number: u32,
     pub place: usize,
@@ -27,7 +27,7 @@ pub fn numbers_of(a: Answer) -> Numbers {
 }
 
 // Two answers that are compared, and the place where it is counted that they differ.
-#[derive(Drop)]
+#[derive(Clone, Copy)]
 pub struct Compared {
     pub sort: usize,
     pub a: Numbers,

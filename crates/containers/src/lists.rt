@@ -18,7 +18,7 @@ use tokens::Step;
 use tokens::entry::{Entry, put};
 
 // A refusal's number and place; or the place after members, the row after theirs, and how many there are.
-#[derive(Drop)]
+#[derive(Clone, Copy)]
 pub enum Listed {
     Fault(u32, usize),
     Next(usize, usize, usize),

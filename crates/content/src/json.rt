@@ -5,7 +5,7 @@ ghost use Rattle.format.specs.JsonNumber.{start, letter, is_digit, leading as le
 ghost use Rattle.content.specs.Stages.{stage_of};
 
 // How far a number has come.
-#[derive(Drop)]
+#[derive(Clone, Copy)]
 pub enum Stage {
     Start,
     Minus,

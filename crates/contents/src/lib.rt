@@ -8,7 +8,7 @@ pub mod tables;
 pub mod walk;
 
 // The payload is right; or its first wrong slot begins here.
-#[derive(Drop)]
+#[derive(Clone, Copy)]
 pub enum Checked {
     Right,
     Wrong(usize),

@@ -15,7 +15,7 @@ const NOT_ALLOWED: u32 = 3;
 const NO_ROW: u32 = 8;
 
 // A message that is refused: by which edition, the refusal's number and place; and whether this is shown with colour.
-#[derive(Drop)]
+#[derive(Clone, Copy)]
 pub struct Refusal {
     pub edition: Edition,
     pub number: u32,

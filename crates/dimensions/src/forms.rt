@@ -15,7 +15,7 @@ use scan::integers::{Parsed, number};
 use tokens::entry::{Entry, put};
 
 // How each of several dimensions stands: as an integer record, or bare under a mark.
-#[derive(Drop)]
+#[derive(Clone, Copy)]
 pub enum Form {
     Marked,
     Bare(u8),

@@ -6,7 +6,7 @@ pub mod products;
 
 // A refusal's number and place; or the place after the dimensions that were read, the row after their rows, and their product,
 // which is one over the limit where it would be more.
-#[derive(Drop)]
+#[derive(Clone, Copy)]
 pub enum Dims {
     Fault(u32, usize),
     Next(usize, usize, usize),

@@ -17,7 +17,7 @@ use tokens::entry::{Entry, put};
 use tokens::scalars::{Place, payload_end};
 
 // An extension's id, and its payload's length and first byte; or a refusal's number and place.
-#[derive(Drop)]
+#[derive(Clone, Copy)]
 enum Head {
     Of(u32, u32, usize),
     Refused(u32, usize),

@@ -4,35 +4,35 @@ ghost use Rattle.format.specs.Tokens.{kind_number};
 ghost use Rattle.format.specs.Answers.{kind_of};
 
 // The reader's and the rewriter's answer: rows used or bytes written; or a refusal's number and place.
-#[derive(Drop)]
+#[derive(Clone, Copy)]
 pub enum Answer {
     Done(usize),
     Refused(u32, usize),
 }
 
 // Where a slot or a text stands: its first byte and its width; or a refusal's number.
-#[derive(Drop)]
+#[derive(Clone, Copy)]
 pub enum Located {
     At(usize, usize),
     Refused(u32),
 }
 
 // The row that a name leads to; or a refusal's number.
-#[derive(Drop)]
+#[derive(Clone, Copy)]
 pub enum Found {
     Row(usize),
     Refused(u32),
 }
 
 // The edition that a message is read by: the old series sends no extensions, the new one does.
-#[derive(Drop)]
+#[derive(Clone, Copy)]
 pub enum Edition {
     Old,
     New,
 }
 
 // A token's kind.
-#[derive(Drop)]
+#[derive(Clone, Copy)]
 pub enum Kind {
     Scalar,
     Text,
@@ -73,7 +73,7 @@ impl Kind {
 }
 
 // A scalar's value. No f32 or f64 keeps a NaN's bits, so these have cases of their own.
-#[derive(Drop)]
+#[derive(Clone, Copy)]
 pub enum Value {
     Null,
     Boolean(bool),
@@ -88,14 +88,14 @@ pub enum Value {
 }
 
 // A scalar's value, with the token's kind kept beside it.
-#[derive(Drop)]
+#[derive(Clone, Copy)]
 pub struct Token {
     pub kind: Kind,
     pub value: Value,
 }
 
 // The value at a row or a slot; or a refusal's number.
-#[derive(Drop)]
+#[derive(Clone, Copy)]
 pub enum Valued {
     Token(Token),
     Refused(u32),

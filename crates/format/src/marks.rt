@@ -4,12 +4,12 @@ ghost use Rattle.format.specs.Marks.{opening_of, opens, closes, is_integer, is_s
 ghost use Rattle.format.specs.Traits.{traits_of};
 
 // A mark is a byte: the code of its letter.
-#[derive(Drop)]
+#[derive(Clone, Copy)]
 pub struct Mark(pub u8);
 
 // What goes with a mark: the bytes of its payload, and whether it is an integer's, a signed integer's, a typed container's and a
 // scalar's.
-#[derive(Drop)]
+#[derive(Clone, Copy)]
 pub struct Traits {
     pub width: usize,
     pub integer: bool,

@@ -1,7 +1,7 @@
 // What the generator draws its choices from, and writes its bytes with.
 
 // A pen: it draws numbers, and writes bytes into the buffer that goes with it.
-#[derive(Drop)]
+#[derive(Clone, Copy)]
 pub struct Pen {
     // What the numbers are drawn from.
     pub state: u64,

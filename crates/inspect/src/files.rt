@@ -9,7 +9,7 @@ use show::quoted::plain;
 use wording::block::flush;
 
 // What was read: so many bytes, and whether a read failed after them.
-#[derive(Drop)]
+#[derive(Clone, Copy)]
 struct Bytes {
     count: usize,
     failed: bool,

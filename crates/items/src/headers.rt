@@ -8,7 +8,7 @@ use format::marks::Mark;
 use scan::integers::{Parsed, integer};
 
 // What follows an opening mark: a refusal; `$`; `#` and a count, and where the first member may begin; or neither.
-#[derive(Drop)]
+#[derive(Clone, Copy)]
 pub enum Header {
     Fault(u32, usize),
     Typed,

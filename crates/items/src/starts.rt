@@ -17,7 +17,7 @@ use tokens::Step;
 use tokens::scalars::{key, scalar, text};
 
 // What a mark begins.
-#[derive(Drop)]
+#[derive(Clone, Copy)]
 pub enum Class {
     Scalar,
     Text,
@@ -30,7 +30,7 @@ pub enum Class {
 
 // A refusal's number and place; or the place after a value that is read, and the row after its rows; or a container that opens with
 // a bracket or a brace, where, and its row.
-#[derive(Drop)]
+#[derive(Clone, Copy)]
 pub enum Item {
     Fault(u32, usize),
     Next(usize, usize),

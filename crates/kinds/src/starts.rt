@@ -17,7 +17,7 @@ use tokens::Step;
 use tokens::scalars::key;
 
 // What a mark begins; or the number of its refusal.
-#[derive(Drop)]
+#[derive(Clone, Copy)]
 pub enum Class {
     Plain,
     Text,
@@ -27,7 +27,7 @@ pub enum Class {
 }
 
 // A kind that is read or refused; or the place and the row of a fixed array or a record whose members remain to be read.
-#[derive(Drop)]
+#[derive(Clone, Copy)]
 pub enum Start {
     Ended(Kinds),
     Array(usize, usize),

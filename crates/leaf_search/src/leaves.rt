@@ -11,14 +11,14 @@ use format::marks::Mark;
 use scan::integers::{Parsed, integer};
 
 // So many leaves are to be passed before it; or its offset in the record and its width.
-#[derive(Drop)]
+#[derive(Clone, Copy)]
 pub enum Seen {
     Left(usize),
     Found(usize, usize),
 }
 
 // How far a walk over a schema's bytes has come: the next byte, the offset of the next leaf, and the leaf that is looked for.
-#[derive(Drop)]
+#[derive(Clone, Copy)]
 pub struct Walk {
     pub next: usize,
     pub offset: usize,

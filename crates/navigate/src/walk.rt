@@ -5,7 +5,7 @@ use numbers::{byte, least, less, sum};
 use rows::{Row, count, load};
 
 // Where the way has come to: a byte, the first row that is not open yet, and the rows that are open.
-#[derive(Drop)]
+#[derive(Clone, Copy)]
 pub struct Walk {
     pub byte: usize,
     pub row: usize,

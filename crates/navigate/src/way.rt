@@ -7,7 +7,7 @@ use rows::word;
 const KEY: usize = 4;
 
 // The members, and how many there are: a schema nests less deep than there is room.
-#[derive(Drop)]
+#[derive(Clone, Copy)]
 pub struct Way {
     // Their rows.
     pub members: [usize; 16],

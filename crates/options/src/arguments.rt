@@ -47,7 +47,7 @@ const INDEXES: usize = 8;
 
 // The views, and the places among the arguments of the words that an address, a path of names and an edition take; 0 where none is
 // asked for.
-#[derive(Drop)]
+#[derive(Clone, Copy)]
 pub struct Asked {
     pub rows: bool,
     pub slots: bool,

@@ -11,7 +11,7 @@ use shapes::counts::{Shaped, shape};
 const MOST: usize = LIMIT as usize;
 
 // The payload's first byte, and how many records.
-#[derive(Drop)]
+#[derive(Clone, Copy)]
 pub struct Count {
     pub start: usize,
     pub many: usize,

@@ -14,7 +14,7 @@ const KIND_LEVELS: usize = SCHEMA_LEVELS - 1;
 
 // What a walk over a whole schema gives: the byte after it, a record's width, the leaf that is looked for, and, where it was found,
 // its field's offset and width.
-#[derive(Drop)]
+#[derive(Clone, Copy)]
 pub struct Fields {
     pub next: usize,
     pub wide: usize,

@@ -3,7 +3,7 @@ use format::answers::{Answer, Edition};
 use memory::{fill_bytes, fill_words};
 
 // An answer as numbers: number, place, and rows used or bytes written.
-#[derive(Drop)]
+#[derive(Clone, Copy)]
 pub struct Numbers {
     pub number: u32,
     pub place: usize,

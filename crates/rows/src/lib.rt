@@ -11,7 +11,7 @@ ghost use Rattle.rows.specs.Row.{row_of, ancestry_of, no_row, store as store_in}
 pub const ROW_WORDS: usize = 10;
 
 // A row: its words by name, in their order.
-#[derive(Drop)]
+#[derive(Clone, Copy)]
 pub struct Row {
     pub kind: u32,
     pub mark: u32,
@@ -26,7 +26,7 @@ pub struct Row {
 }
 
 // A token's ancestry: its parent's row plus one, 0 for the outermost; and its depth, 0 for the outermost.
-#[derive(Drop)]
+#[derive(Clone, Copy)]
 pub struct Ancestry {
     pub parent: u32,
     pub depth: u32,

@@ -20,7 +20,7 @@ use scan::bytes::byte_at;
 use tokens::entry::{Entry, put};
 
 // The place after the members read, the row after theirs, and how many they are.
-#[derive(Drop)]
+#[derive(Clone, Copy)]
 pub struct Run {
     pub at: usize,
     pub row: usize,

@@ -46,7 +46,7 @@ fn is_negative(message: &[u8], mark: Mark, start: usize) -> bool
 }
 
 // An integer's number and the place after it; or a refusal's number and place.
-#[derive(Drop)]
+#[derive(Clone, Copy)]
 pub enum Parsed {
     Number(u32, usize),
     Refused(u32, usize),

@@ -53,7 +53,7 @@ pub const ENDLESS: u32 = 0xFFFF_FFFF;
 pub const ALL: usize = 328;
 
 // What is open.
-#[derive(Drop)]
+#[derive(Clone, Copy)]
 pub struct Frame {
     // What must come next.
     pub task: u32,

@@ -2,7 +2,7 @@
 use crate::numbers::sum;
 
 // What the machine knows beside its frames.
-#[derive(Drop)]
+#[derive(Clone, Copy)]
 pub struct Machine {
     // The message's length, and the rows lent.
     pub end: u32,

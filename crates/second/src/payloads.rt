@@ -14,7 +14,7 @@ const RECORD: u32 = 65_536;
 const NONE: u32 = MOST;
 
 // A value of a table: the rows of its kinds, its bytes, and where they begin in the record.
-#[derive(Drop)]
+#[derive(Clone, Copy)]
 struct Field {
     from: u32,
     to: u32,

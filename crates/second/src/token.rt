@@ -7,7 +7,7 @@ use crate::numbers::{product, sum};
 use crate::table;
 
 // What a row says of a token that holds no others.
-#[derive(Drop)]
+#[derive(Clone, Copy)]
 pub struct Entry {
     pub kind: u32,
     pub mark: u8,

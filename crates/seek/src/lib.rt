@@ -18,7 +18,7 @@ mod nest;
 mod steps;
 
 // A table's first byte, what it opens with, and its row; or there are not so many.
-#[derive(Drop)]
+#[derive(Clone, Copy)]
 pub enum TableFound {
     At {
         first: usize,

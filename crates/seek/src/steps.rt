@@ -13,7 +13,7 @@ use typed::types::{ContainerType, type_at};
 
 // A refusal; the place and the row after what was passed, and how many tables are still to be passed; or the table sought: what it
 // opens with, its first byte and its row.
-#[derive(Drop)]
+#[derive(Clone, Copy)]
 pub enum Sought {
     Refused,
     Past(usize, usize, usize),

@@ -14,7 +14,7 @@ use scan::integers::{Parsed, integer};
 
 // A refusal's number and place; or the place after, the row after the dimensions' rows, how many elements there are, which is one
 // over the limit where it would be more, and 01's number of the order.
-#[derive(Drop)]
+#[derive(Clone, Copy)]
 pub enum Shaped {
     Refused(u32, usize),
     Shape {

@@ -25,7 +25,7 @@ pub const RED: usize = 1;
 pub const GREEN: usize = 2;
 
 // A part of the bytes that is marked: its first byte, the byte after it, and whether with colour.
-#[derive(Drop)]
+#[derive(Clone, Copy)]
 struct Part {
     first: usize,
     end: usize,

@@ -7,7 +7,7 @@ use wording::phrases::{put, with};
 use wording::tables::line;
 
 // A float that is a whole number times two to the power of `scale` less 1,075.
-#[derive(Drop)]
+#[derive(Clone, Copy)]
 struct Binary {
     whole: u64,
     scale: usize,
@@ -147,7 +147,7 @@ fn exact(out: &mut [u8], at: usize, from: Binary) -> usize {
 
 // A float by its parts: 1 where it is negative, its exponent's bits, the largest of these, and its fraction. A fraction has one more
 // bit before it, `hidden`, unless its exponent's bits are 0; `base` is the scale of the exponent's bits 0.
-#[derive(Drop)]
+#[derive(Clone, Copy)]
 struct Parts {
     negative: usize,
     exponent: usize,

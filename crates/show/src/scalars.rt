@@ -35,7 +35,7 @@ const BYTE: u8 = 8;
 const REFUSED: u8 = 9;
 
 // A scalar, with its number, code or bits.
-#[derive(Drop)]
+#[derive(Clone, Copy)]
 struct Scalar {
     case: u8,
     bits: u64,

@@ -14,14 +14,14 @@ use wording::digits::number;
 use wording::phrases::with;
 
 // Indexes, and how many there are.
-#[derive(Drop)]
+#[derive(Clone, Copy)]
 pub struct Indexes {
     pub list: [usize; 9],
     pub count: usize,
 }
 
 // A slot: the row of its packed array or table, the way to its leaf, and its indexes. An element of a packed array has no way.
-#[derive(Drop)]
+#[derive(Clone, Copy)]
 pub struct Slot {
     pub row: usize,
     pub way: Way,

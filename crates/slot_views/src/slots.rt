@@ -18,7 +18,7 @@ use wording::digits::right;
 use wording::phrases::{Phrase, plain, with};
 
 // How slots are listed, and where the list has come to.
-#[derive(Drop)]
+#[derive(Clone, Copy)]
 pub struct Listing {
     // Whether each stands beside its bytes.
     pub hex: bool,

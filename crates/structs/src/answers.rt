@@ -9,7 +9,7 @@ use format::answers::{Answer, Found, Located, Value, Valued};
 
 // Number and place, and the rows used or the bytes written.
 #[repr(C)]
-#[derive(Drop)]
+#[derive(Clone, Copy)]
 pub struct Reading {
     pub number: u32,
     pub place: usize,
@@ -18,7 +18,7 @@ pub struct Reading {
 
 // The number, and a slot's or a text's first byte and width.
 #[repr(C)]
-#[derive(Drop)]
+#[derive(Clone, Copy)]
 pub struct Place {
     pub number: u32,
     pub first: usize,
@@ -27,7 +27,7 @@ pub struct Place {
 
 // The number, and a row.
 #[repr(C)]
-#[derive(Drop)]
+#[derive(Clone, Copy)]
 pub struct Member {
     pub number: u32,
     pub row: usize,
@@ -35,7 +35,7 @@ pub struct Member {
 
 // The number, and a value's kind, case and bits.
 #[repr(C)]
-#[derive(Drop)]
+#[derive(Clone, Copy)]
 pub struct Scalar {
     pub number: u32,
     pub kind: u32,

@@ -10,7 +10,7 @@ const OLD: u32 = 1;
 const NEW: u32 = 2;
 
 // The edition that a number names, or none.
-#[derive(Drop)]
+#[derive(Clone, Copy)]
 pub enum Named {
     By(Edition),
     Nothing,

@@ -3,7 +3,7 @@ use format::answers::{Located, Value, Valued};
 use numbers::{byte, sum};
 
 // A value answer by numbers: the token's kind, the value's case, and what the case holds.
-#[derive(Drop)]
+#[derive(Clone, Copy)]
 struct Content {
     kind: u32,
     case: u32,

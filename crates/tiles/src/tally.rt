@@ -1,7 +1,7 @@
 // What the program counts.
 
 // The numbers of the summary, and of the message at hand the slots that are listed.
-#[derive(Drop)]
+#[derive(Clone, Copy)]
 pub struct Tally {
     pub messages: u64,
     pub accepted: u64,

@@ -8,7 +8,7 @@ use format::answers::Kind;
 use rows::{Ancestry, Row, store};
 
 // A token: its row's words but the link, the parent and the depth.
-#[derive(Drop)]
+#[derive(Clone, Copy)]
 pub struct Entry {
     pub kind: Kind,
     pub mark: u8,

@@ -6,7 +6,7 @@ pub mod entry;
 pub mod scalars;
 
 // A refusal's number and place; or the place after what was read, and the row after its rows.
-#[derive(Drop)]
+#[derive(Clone, Copy)]
 pub enum Step {
     Fault(u32, usize),
     Next(usize, usize),

@@ -19,7 +19,7 @@ use rows::Ancestry;
 use scan::integers::{Parsed, integer, number};
 
 // The place after a payload; or a refusal's number and place.
-#[derive(Drop)]
+#[derive(Clone, Copy)]
 pub enum Place {
     At(usize),
     Refused(u32, usize),

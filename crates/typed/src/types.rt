@@ -5,7 +5,7 @@ ghost use Rattle.typed.specs.Types.{TypeMeets, TypeWithin};
 use format::marks::Mark;
 
 // A refusal's number and place; a schema; or a type's mark.
-#[derive(Drop)]
+#[derive(Clone, Copy)]
 pub enum ContainerType {
     Fault(u32, usize),
     Schema,

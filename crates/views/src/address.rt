@@ -14,7 +14,7 @@ use wording::phrases::{plain, with};
 
 // An address: the row of a packed array or a table, the row of a leaf, whether the leaf is given, and the indexes; and whether the
 // bytes are shown with colour.
-#[derive(Drop)]
+#[derive(Clone, Copy)]
 pub struct Address {
     pub row: usize,
     pub leaf: usize,

@@ -12,7 +12,7 @@ use format::limits::DIMENSION_LIMIT;
 use rows::load;
 
 // A refusal's number; or how many extents were stored.
-#[derive(Drop)]
+#[derive(Clone, Copy)]
 pub enum Gathered {
     Refused(u32),
     Many(usize),

@@ -12,7 +12,7 @@ use format::answers::Found;
 use rows::{Row, load};
 
 // One member further: a refusal's number; the leaf's row; the member that holds it; or the row after a member that doesn't.
-#[derive(Drop)]
+#[derive(Clone, Copy)]
 pub enum Step {
     Refused(u32),
     Leaf(usize),

@@ -14,7 +14,7 @@ use format::marks::Mark;
 use rows::Row;
 
 // What is needed.
-#[derive(Drop)]
+#[derive(Clone, Copy)]
 pub enum Need {
     Packed,
     Table,

@@ -6,7 +6,7 @@ use crate::tables::start;
 
 // A phrase: its line's number, and the numbers that signs stand for. `#`, `&` and `*` are these in decimal; `$` is an `s` unless the
 // first is 1; `%` is the mark whose byte the first is, with its type; `@` is the kind whose number the second is; `~` ends a line.
-#[derive(Drop)]
+#[derive(Clone, Copy)]
 pub struct Phrase {
     pub line: usize,
     pub first: usize,

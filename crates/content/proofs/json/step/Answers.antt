@@ -1,0 +1,44 @@
+-- `step`: by the stage. Assumes nothing.
+use borrow.Author.Rules.{rules}
+use Rattle.format.specs.JsonNumber as Json
+use Rattle.content.proofs.json.step.Goals as goal
+
+pub returns-in-Minus : goal.returns-in-Minus
+unfolding Json.step
+returns-in-Minus c =
+    rw c.enum_told-in-Minus-1.given.1 c.leading.ensures
+
+pub returns-in-LeadingZero : goal.returns-in-LeadingZero
+unfolding Json.step
+returns-in-LeadingZero c =
+    rw c.enum_told-in-LeadingZero-1.given.1 c.after_whole.ensures
+
+pub returns-in-Whole : goal.returns-in-Whole
+unfolding Json.step
+returns-in-Whole c =
+    rw (c.enum_told-in-Whole-1.given.1, ← c.after_whole-in-Whole.ensures) c.on_digit.ensures
+
+pub returns-in-Point : goal.returns-in-Point
+unfolding Json.step
+returns-in-Point c =
+    rw c.enum_told-in-Point-1.given.1 c.on_digit-in-Point.ensures
+
+pub returns-in-Fraction : goal.returns-in-Fraction
+unfolding Json.step
+returns-in-Fraction c =
+    rw (c.enum_told-in-Fraction-1.given.1, ← c.after_fraction.ensures) c.on_digit-in-Fraction.ensures
+
+pub returns-in-Sign : goal.returns-in-Sign
+unfolding Json.step
+returns-in-Sign c =
+    rw c.enum_told-in-Sign-1.given.1 c.on_digit-in-Sign.ensures
+
+pub returns-in-Exponent : goal.returns-in-Exponent
+unfolding Json.step
+returns-in-Exponent c =
+    rw c.enum_told-in-Exponent-1.given.1 c.on_digit-in-Exponent.ensures
+
+pub returns-in-Wrong : goal.returns-in-Wrong
+unfolding Json.step
+returns-in-Wrong c =
+    rw c.enum_told-in-Wrong-1.given.1

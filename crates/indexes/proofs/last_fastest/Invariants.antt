@@ -1,0 +1,13 @@
+-- `last_fastest`: the number of the indexes before the one reached. Assumes nothing.
+use Prim.Native.Nat.{◌-◌, ◌≤◌}
+use native.Mathlib.Omega.{arith}
+use borrow.Author.Rules.{rules}
+use lib.ListN.{length}
+use Rattle.indexes.proofs.Numbers.{range_length, range_at, Counted, counted_start, counted_on, counted_end}
+use Rattle.indexes.proofs.last_fastest.Given as goal
+
+abbrev pub invariant-loop-k : goal.invariant-loop-k
+invariant-loop-k l = (l.k ≤ length l.extents) × Counted l.extents l.indexes l.k l.number
+
+abbrev pub decreases-loop-k : goal.decreases-loop-k
+decreases-loop-k l = length l.extents - l.k
