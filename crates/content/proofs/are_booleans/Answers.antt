@@ -12,11 +12,11 @@ use Rattle.content.proofs.are_booleans.Goals as goal
 
 pub returns-then-not-is_boolean : goal.returns-then-not-is_boolean
 returns-then-not-is_boolean c =
-    sym (c.loop-i.invariant.1 ∙ all_off _ _ _ c.loop-i-test.true (rw (← c.is_boolean.ensures) (not-true _ c.if-not-is_boolean.true)))
+    sym (c.loop-i.invariant.1 ∙ all_off _ _ _ c.loop-i-test.true (rw (← c.is_boolean.ensures) c.if-not-is_boolean.true))
 
 pub loop-i-preserved : goal.loop-i-preserved
 loop-i-preserved c =
-    (omega arith, c.loop-i.invariant.1 ∙ all_on _ _ _ c.loop-i-test.true (rw (← c.is_boolean.ensures) (not-false _ c.if-not-is_boolean.false)))
+    (omega arith, c.loop-i.invariant.1 ∙ all_on _ _ _ c.loop-i-test.true (rw (← c.is_boolean.ensures) c.if-not-is_boolean.false))
 
 pub returns : goal.returns
 returns c =

@@ -11,44 +11,44 @@ returns-in-Start c =
 pub returns-in-Minus : goal.returns-in-Minus
 unfolding Json.ends
 returns-in-Minus c =
-    rw c.enum_told-in-Minus-1.given.1
+    rw c.in-Minus.is
 
 pub returns-in-LeadingZero : goal.returns-in-LeadingZero
 unfolding Json.ends
 returns-in-LeadingZero c =
-    rw c.enum_told-in-LeadingZero-1.given.1
+    rw c.in-LeadingZero.is
 
 pub returns-in-Whole : goal.returns-in-Whole
 unfolding Json.ends
 returns-in-Whole c =
-    rw c.enum_told-in-Whole-1.given.1
+    rw c.in-Whole.is
 
 pub returns-in-Point : goal.returns-in-Point
 unfolding Json.ends
 returns-in-Point c =
-    rw c.enum_told-in-Point-1.given.1
+    rw c.in-Point.is
 
 pub returns-in-Fraction : goal.returns-in-Fraction
 unfolding Json.ends
 returns-in-Fraction c =
-    rw c.enum_told-in-Fraction-1.given.1
+    rw c.in-Fraction.is
 
 pub returns-in-Letter : goal.returns-in-Letter
 unfolding Json.ends
 returns-in-Letter c =
-    rw c.enum_told-in-Letter-1.given.1
+    rw c.in-Letter.is
 
 pub returns-in-Sign : goal.returns-in-Sign
 unfolding Json.ends
 returns-in-Sign c =
-    rw c.enum_told-in-Sign-1.given.1
+    rw c.in-Sign.is
 
 pub returns-in-Exponent : goal.returns-in-Exponent
 unfolding Json.ends
 returns-in-Exponent c =
-    rw c.enum_told-in-Exponent-1.given.1
+    rw c.in-Exponent.is
 
 pub returns-in-Wrong : goal.returns-in-Wrong
 unfolding Json.ends
 returns-in-Wrong c =
-    rw c.enum_told-in-Wrong-1.given.1
+    rw c.in-Wrong.is
