@@ -141,7 +141,7 @@ pub fn leaf(
     best: usize,
 ) -> Walk
     requires { Sound stride place best }
-    ensures is { ⌜ ((levels : ℕ) → (get_or message.now at 0 ≡ '[' → ⊥) → (get_or message.now at 0 ≡ left_brace → ⊥) → Walks message.now (λ lent. kind_by message.now lent (nested message.now lent levels)) at stride count place best result) ⌝ }
+    ensures is { ((levels : ℕ) → (get_or message.now at 0 ≡ '[' → ⊥) → (get_or message.now at 0 ≡ left_brace → ⊥) → Walks message.now (λ lent. kind_by message.now lent (nested message.now lent levels)) at stride count place best result) }
     ensures bounds { Ends best result }
 {
     let off = Walk {

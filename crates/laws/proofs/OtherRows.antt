@@ -48,7 +48,7 @@ unfolding ◌⊕◌ size
 at_right {row} {k} none {g} {v} {t} x = let e : row + 0 ≡ row = omega arith in subst (λ (n : ℕ). At n g k t v) e x
 at_right {row} {k} (node u below after) {g} {v} {t} x =
     let e : row + suc (size below + size after) ≡ suc row + size below + size after = omega arith in
-    later (at_right after (subst (λ (n : ℕ). At n g k t v) e x))
+    later (at_right {row = suc row + size below} after (subst (λ (n : ℕ). At n g k t v) e x))
 
 -- a token that begins at a place stands at row k
 record Begins (row : ℕ) (f : Forest) (k place : ℕ) : Type 0 where

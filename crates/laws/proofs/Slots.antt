@@ -53,7 +53,7 @@ module _ {A : Type 0} where
     nil : Inside end []
     slot : {s : Slot A} {ss : List (Slot A)} → s.offset + s.wide ≤ end → Inside end ss → Inside end (s ∷ ss)
 
-  pub inside_widen : {ss : List (Slot A)} {end : ℕ} (end' : ℕ) → end ≤ end' → Inside end ss → Inside end' ss
+  pub inside_widen : {end : ℕ} {ss : List (Slot A)} (end' : ℕ) → end ≤ end' → Inside end ss → Inside end' ss
   inside_widen end' h nil = nil
   inside_widen end' h (slot k i) = slot (le_trans k h) (inside_widen end' h i)
 
@@ -66,15 +66,15 @@ module _ {A : Type 0} where
   pub tiles_at : {from end : ℕ} {ss : List (Slot A)} (from' end' : ℕ) → from ≡ from' → end ≡ end' → Tiles end from ss → Tiles end' from' ss
   tiles_at {ss = ss} from' end' p q t = subst₂ (λ x y. Tiles y x ss) p q t
 
-  tiles_append : {from mid end : ℕ} {ss ts : List (Slot A)} → Tiles mid from ss → Tiles end mid ts → Tiles end from (ss ++ ts)
+  tiles_append : {mid end from : ℕ} {ss ts : List (Slot A)} → Tiles mid from ss → Tiles end mid ts → Tiles end from (ss ++ ts)
   tiles_append (no_slot h) b = tiles_at _ _ (sym h) refl b
   tiles_append (next_slot h a) b = next_slot h (tiles_append a b)
 
-  pub tiles_end : {from end : ℕ} {ss : List (Slot A)} → Tiles end from ss → from ≤ end
+  pub tiles_end : {end from : ℕ} {ss : List (Slot A)} → Tiles end from ss → from ≤ end
   tiles_end (no_slot h) = omega arith
   tiles_end (next_slot h r) = let x = tiles_end r in omega arith
 
-  tiles_inside : {from end : ℕ} {ss : List (Slot A)} → Tiles end from ss → Inside end ss
+  tiles_inside : {end from : ℕ} {ss : List (Slot A)} → Tiles end from ss → Inside end ss
   tiles_inside (no_slot h) = nil
   tiles_inside {end = end} (next_slot {s = s} h r) = let x = tiles_end r in let k : s.offset + s.wide ≤ end = omega arith in slot k (tiles_inside r)
 

@@ -72,7 +72,7 @@ fn leaf_over(wide: usize, next: usize, offset: usize, seen: Seen) -> Walk
 // A leaf of the schema.
 pub fn leaf(message: &[u8], at: usize, offset: usize, seen: Seen) -> Walk
     requires { Begins offset seen }
-    ensures is { ⌜ ((levels : ℕ) → (get_or message.now at 0 ≡ '[' → ⊥) → (get_or message.now at 0 ≡ left_brace → ⊥) → Walks (λ lent. kind_by message.now lent (nested message.now lent levels)) at offset seen result) ⌝ }
+    ensures is { ((levels : ℕ) → (get_or message.now at 0 ≡ '[' → ⊥) → (get_or message.now at 0 ≡ left_brace → ⊥) → Walks (λ lent. kind_by message.now lent (nested message.now lent levels)) at offset seen result) }
     ensures bounds { Ends offset result }
 {
     let off = Walk {

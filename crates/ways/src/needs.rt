@@ -51,7 +51,7 @@ fn is_letter(word: u32, letter: u8) -> bool
 
 // A word that is a table's mark.
 fn is_layout(word: u32) -> bool
-    ensures { ⌜ result ≡ among ('[' ∷ left_brace ∷ []) word ⌝ }
+    ensures { result ≡ among ('[' ∷ left_brace ∷ []) word }
 {
     if is_letter(word, Mark::ARRAY) {
         return true;

@@ -57,7 +57,7 @@ pub fn put_single(message: &[u8], output: &mut [u8], at: usize, r: Row) -> usize
 // What a packed array opens with.
 fn put_packed(output: &mut [u8], at: usize, mark: u8, order: u32, count: u32) -> usize
     requires { at < 2 ^ 58 }
-    ensures { ⌜ Puts output.old output.new at result ('[' ∷ '$' ∷ mark ∷ '#' ∷ shape_start order count) ⌝ }
+    ensures { Puts output.old output.new at result ('[' ∷ '$' ∷ mark ∷ '#' ∷ shape_start order count) }
 {
     let a = put(output, at, Mark::ARRAY);
     let b = put(output, a, Mark::TYPE);

@@ -1,0 +1,9 @@
+-- `put`: the row that the struct stands for is stored. Assumes nothing.
+use borrow.Author.Rules.{rules}
+use Rattle.format.specs.Rows.{row_of}
+use Rattle.tokens.proofs.entry.put.Goals as goal
+
+pub returns : goal.returns
+unfolding row_of
+returns c =
+    rw (← c.number-kind.ensures) c.store.ensures

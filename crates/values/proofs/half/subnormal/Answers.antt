@@ -1,0 +1,23 @@
+-- `subnormal`: a loop that moves the digits up, a place a turn. Assumes nothing.
+use mathlib.Core.Path.{refl}
+use native.Mathlib.Omega.{arith}
+use lib.Ieee.{odd, to_bits}
+use Rattle.format.specs.Half.{half_value}
+use Rattle.values.proofs.Halves.{Moved, over, up, small, ended}
+use Rattle.values.proofs.half.subnormal.Goals as goal
+
+returns : goal.Need-returns
+unfolding half_value odd to_bits
+returns c = (rw c.if-fraction-eq0.true refl, omega arith)
+
+pub returns-then-fraction-eq0 : goal.returns-then-fraction-eq0
+returns-then-fraction-eq0 c =
+    (returns) c
+
+pub loop-digits-preserved : goal.loop-digits-preserved
+loop-digits-preserved c =
+    up _ _ _ c.loop-digits.invariant c.loop-digits-test.true
+
+pub returns-clause-is : goal.returns-clause-is
+returns-clause-is c =
+    let m = c.loop-digits.invariant in ended _ _ _ m c.loop-digits-test.false

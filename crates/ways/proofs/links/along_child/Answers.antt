@@ -1,0 +1,18 @@
+-- `along_child`: the parent, then the rest. Assumes nothing.
+use mathlib.Core.Path.{◌∙◌}
+use native.Mathlib.Omega.{arith}
+use borrow.Author.Rules.{rules}
+use Rattle.ways.proofs.Along.{along_other, along_own}
+use Rattle.ways.proofs.links.along_child.Goals as goal
+
+pub returns-then-parent-eq0 : goal.returns-then-parent-eq0
+returns-then-parent-eq0 c =
+    along_other _ _ _ _ _ c.requires _ c.load-parent.ensures.there (λ e. omega (arith, e, c.if-parent-eq0.true))
+
+pub returns-then-parent-container : goal.returns-then-parent-container
+returns-then-parent-container c =
+    along_other _ _ _ _ _ c.requires _ c.load-parent.ensures.there (λ e. omega (arith, e, c.if-parent-container.true))
+
+pub returns : goal.returns
+returns c =
+    c.along.ensures ∙ along_own _ _ _ _ _ c.requires _ c.load-parent.ensures.there (omega (arith, c.if-parent-container.false, c.if-parent-eq0.false))
