@@ -30,7 +30,7 @@ module _ (m : List ℕ) (start : ℕ) where
       go true = h
       go false = k
 
-  least-from : {ss : List (Slot ℕ)} {from end : ℕ} (b : ℕ) → b ≤ nowhere → b ≤ start + from → Tiles end from ss → b ≤ least m start ss
+  least-from : {end : ℕ} {ss : List (Slot ℕ)} {from : ℕ} (b : ℕ) → b ≤ nowhere → b ≤ start + from → Tiles end from ss → b ≤ least m start ss
   unfolding least
   least-from b h k (no_slot e) = h
   least-from b h k (next_slot {s = s} {ss = ss} l t) =
@@ -42,7 +42,7 @@ module _ (m : List ℕ) (start : ℕ) where
   least_most [] = omega arith
   least_most (s ∷ ss) = let y = least_most ss in omega arith
 
-  pub contents-least : {ss : List (Slot ℕ)} {from end : ℕ} → start + end ≤ limit → Tiles end from ss → contents m start ss ≡ verdict (least m start ss)
+  pub contents-least : {end : ℕ} {ss : List (Slot ℕ)} {from : ℕ} → start + end ≤ limit → Tiles end from ss → contents m start ss ≡ verdict (least m start ss)
   unfolding contents content verdict least wrong_at if◌then◌else◌ guard ◌>>=◌
   contents-least h (no_slot e) = refl
   contents-least h (next_slot {s = s} {ss = ss} l t) = go (is_content s.mark (bytes m (start + s.offset) s.wide)) (contents-least h t) (least_most ss)

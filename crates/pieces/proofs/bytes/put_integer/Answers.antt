@@ -5,23 +5,14 @@ use Rattle.format.specs.Marks.{'U', 'u', 'm'}
 use Rattle.pieces.proofs.Putting.{in_one, in_two, in_four, integer_puts}
 use Rattle.pieces.proofs.bytes.put_integer.Goals as goal
 
-returns : goal.Need-returns
-returns c = integer_puts _ 'U' (in_one _ c.if-n-lt256.true) c.put_number.ensures
-
-returns-2 : goal.Need-returns-2
-returns-2 c = integer_puts _ 'u' (in_two _ c.if-n-lt256.false c.if-n-lt65536.true) c.put_number-then-n-lt65536.ensures
-
-returns-3 : goal.Need-returns-3
-returns-3 c = integer_puts _ 'm' (in_four _ c.if-n-lt65536.false) c.put_number-2.ensures
-
 pub returns-then-n-lt256 : goal.returns-then-n-lt256
 returns-then-n-lt256 c =
-    (returns) c
+    integer_puts _ 'U' (in_one _ c.if-n-lt256.true) c.put_number.ensures
 
 pub returns-then-n-lt65536 : goal.returns-then-n-lt65536
 returns-then-n-lt65536 c =
-    (returns-2) c
+    integer_puts _ 'u' (in_two _ c.if-n-lt256.false c.if-n-lt65536.true) c.put_number-then-n-lt65536.ensures
 
 pub returns : goal.returns
 returns c =
-    (returns-3) c
+    integer_puts _ 'm' (in_four _ c.if-n-lt65536.false) c.put_number-2.ensures

@@ -23,11 +23,11 @@ unfolding members is_kind if◌then◌else◌
 returns-clause-meets c =
     let e = c.width-width.ensures in
     let p = c.payload_end-end in
-    let f = c.finish in rw (scalar-row _ _ _ _ _ _ c.if-lent-row.false, ← e, ended_is p.result _ _ _ _ _ _ p.ensures.0) f.ensures.0
+    let f = c.finish in rw (scalar-row _ _ _ _ _ _ c.if-lent-row.false, ← e, ended_is p.result _ _ _ _ _ _ p.ensures.is) f.ensures.meets
 
 pub returns-clause-bounds : goal.returns-clause-bounds
 unfolding members is_kind if◌then◌else◌
 returns-clause-bounds c =
     let e = c.width-width.ensures in
     let p = c.payload_end-end in
-    let f = c.finish in within_from f.result _ _ _ _ (omega arith) (f.ensures.1 _ _ _ p.ensures.1 (omega arith) (omega arith))
+    let f = c.finish in within_from f.result _ _ _ _ (omega arith) (f.ensures.bounds _ _ _ p.ensures.bounds (omega arith) (omega arith))

@@ -6,13 +6,10 @@ use Rattle.format.specs.Half.{half_value}
 use Rattle.values.proofs.Halves.{Moved, over, up, small, ended}
 use Rattle.values.proofs.half.subnormal.Goals as goal
 
-returns : goal.Need-returns
+pub returns-then-fraction-eq0-clause-is : goal.returns-then-fraction-eq0-clause-is
 unfolding half_value odd to_bits
-returns c = (rw c.if-fraction-eq0.true refl, omega arith)
-
-pub returns-then-fraction-eq0 : goal.returns-then-fraction-eq0
-returns-then-fraction-eq0 c =
-    (returns) c
+returns-then-fraction-eq0-clause-is c =
+    rw c.if-fraction-eq0.true refl
 
 pub loop-digits-preserved : goal.loop-digits-preserved
 loop-digits-preserved c =

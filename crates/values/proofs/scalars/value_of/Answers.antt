@@ -15,22 +15,6 @@ use Rattle.format.specs.Half as Half
 use Rattle.values.proofs.Marked.{signed_wide, number_is, number_under}
 use Rattle.values.proofs.scalars.value_of.Goals as goal
 
-cast-single-bits : goal.Need-overflow-cast-single-bits
-unfolding leaf_width width among if◌then◌else◌
-cast-single-bits c = record { fits = under c.before 2 (rw c.in-104.is (omega arith)) }
-
-cast-single : goal.Need-overflow-cast-single
-unfolding leaf_width width among if◌then◌else◌
-cast-single c = record { fits = under c.before 4 (rw c.in-100.is (omega arith)) }
-
-cast-code : goal.Need-overflow-cast-code
-unfolding leaf_width width among if◌then◌else◌
-cast-code c = record { fits = under c.before 1 (rw c.in-67.is (omega arith)) }
-
-cast-byte : goal.Need-overflow-cast-byte
-unfolding leaf_width width among if◌then◌else◌
-cast-byte c = record { fits = under c.before 1 (rw c.in-66.is (omega arith)) }
-
 pub signed-requires : goal.signed-requires
 unfolding Values.value_of if◌then◌else◌ among integers is_integer signed_integers is_signed is_boolean
 signed-requires c =
@@ -52,24 +36,28 @@ returns-then-is_integer-clause-is c =
     let i = sym c.is_integer.ensures ∙ c.if-is_integer.true in rw (s, i) (ap Values.unsigned (number))
 
 pub overflow_cast-n : goal.overflow_cast-n
-unfolding Values.value_of if◌then◌else◌ among integers is_integer signed_integers is_signed is_boolean
+unfolding Values.value_of if◌then◌else◌ among integers is_integer signed_integers is_signed is_boolean leaf_width width
 overflow_cast-n c =
-    (cast-single-bits) c
+    let under : (w : ℕ) → leaf_width c.args.mark.0 ≤ w → c.little_endian-n.result < 256 ^ w = number_under c.args.mark.0 _ _ c.little_endian-n.ensures c.requires (λ i. (c.shared_slice_known-1.given i).fits) in
+    record { fits = under 2 (rw c.in-104.is (omega arith)) }
 
 pub overflow_cast-n-in-100 : goal.overflow_cast-n-in-100
-unfolding Values.value_of if◌then◌else◌ among integers is_integer signed_integers is_signed is_boolean
+unfolding Values.value_of if◌then◌else◌ among integers is_integer signed_integers is_signed is_boolean leaf_width width
 overflow_cast-n-in-100 c =
-    (cast-single) c
+    let under : (w : ℕ) → leaf_width c.args.mark.0 ≤ w → c.little_endian-n.result < 256 ^ w = number_under c.args.mark.0 _ _ c.little_endian-n.ensures c.requires (λ i. (c.shared_slice_known-1.given i).fits) in
+    record { fits = under 4 (rw c.in-100.is (omega arith)) }
 
 pub overflow_cast-code : goal.overflow_cast-code
-unfolding Values.value_of if◌then◌else◌ among integers is_integer signed_integers is_signed is_boolean
+unfolding Values.value_of if◌then◌else◌ among integers is_integer signed_integers is_signed is_boolean leaf_width width
 overflow_cast-code c =
-    (cast-code) c
+    let under : (w : ℕ) → leaf_width c.args.mark.0 ≤ w → c.little_endian-n.result < 256 ^ w = number_under c.args.mark.0 _ _ c.little_endian-n.ensures c.requires (λ i. (c.shared_slice_known-1.given i).fits) in
+    record { fits = under 1 (rw c.in-67.is (omega arith)) }
 
 pub overflow_cast-byte : goal.overflow_cast-byte
-unfolding Values.value_of if◌then◌else◌ among integers is_integer signed_integers is_signed is_boolean
+unfolding Values.value_of if◌then◌else◌ among integers is_integer signed_integers is_signed is_boolean leaf_width width
 overflow_cast-byte c =
-    (cast-byte) c
+    let under : (w : ℕ) → leaf_width c.args.mark.0 ≤ w → c.little_endian-n.result < 256 ^ w = number_under c.args.mark.0 _ _ c.little_endian-n.ensures c.requires (λ i. (c.shared_slice_known-1.given i).fits) in
+    record { fits = under 1 (rw c.in-66.is (omega arith)) }
 
 pub returns-in-104-clause-is : goal.returns-in-104-clause-is
 unfolding Values.value_of if◌then◌else◌ among integers is_integer signed_integers is_signed is_boolean

@@ -8,9 +8,9 @@ use Rattle.ways.proofs.members.member.Goals as goal
 pub returns-then-fits : goal.returns-then-fits
 unfolding member_from if◌then◌else◌
 returns-then-fits c =
-    rw (← c.fits2.ensures, c.if-fits.true) c.along_child.ensures
+    rw (← c.fits.ensures, c.if-fits.true) c.along_child.ensures
 
 pub returns : goal.returns
 unfolding member_from if◌then◌else◌
 returns c =
-    rw (← c.fits2.ensures, c.if-fits.false) refl
+    rw (← c.fits.ensures, c.if-fits.false) refl

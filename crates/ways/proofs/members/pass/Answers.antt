@@ -18,15 +18,15 @@ returns-then-next-leaf c =
 
 pub returns-then-is_leaf : goal.returns-then-is_leaf
 returns-then-is_leaf c =
-    let e = sym c.along_child.ensures ∙ ap found c.in-Row.is in let f = followed _ _ _ _ _ e in let l = sym (ap is_leaf_row (c.load.ensures.there (omega (arith, f.before, c.requires)))) ∙ sym c.fits2.ensures ∙ c.if-is_leaf.true in pass_leaf _ _ _ _ _ _ e c.if-leaf-here-2.true l
+    let e = sym c.along_child.ensures ∙ ap found c.in-Row.is in let f = followed _ _ _ _ _ e in let l = sym (ap is_leaf_row (c.load.ensures.there (omega (arith, f.before, c.requires)))) ∙ sym c.fits-is_leaf.ensures ∙ c.if-is_leaf.true in pass_leaf _ _ _ _ _ _ e c.if-leaf-here-2.true l
 
 pub returns-then-leaf-here-2 : goal.returns-then-leaf-here-2
 returns-then-leaf-here-2 c =
-    let e = sym c.along_child.ensures ∙ ap found c.in-Row.is in let f = followed _ _ _ _ _ e in let l = sym (ap is_leaf_row (c.load.ensures.there (omega (arith, f.before, c.requires)))) ∙ sym c.fits2.ensures ∙ c.if-is_leaf.false in pass_no_leaf _ _ _ _ _ _ e c.if-leaf-here-2.true l
+    let e = sym c.along_child.ensures ∙ ap found c.in-Row.is in let f = followed _ _ _ _ _ e in let l = sym (ap is_leaf_row (c.load.ensures.there (omega (arith, f.before, c.requires)))) ∙ sym c.fits-is_leaf.ensures ∙ c.if-is_leaf.false in pass_no_leaf _ _ _ _ _ _ e c.if-leaf-here-2.true l
 
 pub returns-then-is_leaf-2 : goal.returns-then-is_leaf-2
 returns-then-is_leaf-2 c =
-    let e = sym c.along_child.ensures ∙ ap found c.in-Row.is in let f = followed _ _ _ _ _ e in let l = sym (ap is_leaf_row (c.load.ensures.there (omega (arith, f.before, c.requires)))) ∙ sym c.fits2.ensures ∙ c.if-is_leaf-2.true in pass_in_leaf _ _ _ _ _ _ e c.if-leaf-here-2.false c.if-leaf-here.false c.if-next-leaf.false l
+    let e = sym c.along_child.ensures ∙ ap found c.in-Row.is in let f = followed _ _ _ _ _ e in let l = sym (ap is_leaf_row (c.load.ensures.there (omega (arith, f.before, c.requires)))) ∙ sym c.fits-is_leaf.ensures ∙ c.if-is_leaf-2.true in pass_in_leaf _ _ _ _ _ _ e c.if-leaf-here-2.false c.if-leaf-here.false c.if-next-leaf.false l
 
 pub returns-in-Refused : goal.returns-in-Refused
 returns-in-Refused c =
@@ -34,4 +34,4 @@ returns-in-Refused c =
 
 pub returns-else-is_leaf-2 : goal.returns-else-is_leaf-2
 returns-else-is_leaf-2 c =
-    let e = sym c.along_child.ensures ∙ ap found c.in-Row.is in let f = followed _ _ _ _ _ e in let l = sym (ap is_leaf_row (c.load.ensures.there (omega (arith, f.before, c.requires)))) ∙ sym c.fits2.ensures ∙ c.if-is_leaf-2.false in pass_inside _ _ _ _ _ _ e c.if-leaf-here-2.false c.if-leaf-here.false c.if-next-leaf.false l
+    let e = sym c.along_child.ensures ∙ ap found c.in-Row.is in let f = followed _ _ _ _ _ e in let l = sym (ap is_leaf_row (c.load.ensures.there (omega (arith, f.before, c.requires)))) ∙ sym c.fits-is_leaf.ensures ∙ c.if-is_leaf-2.false in pass_inside _ _ _ _ _ _ e c.if-leaf-here-2.false c.if-leaf-here.false c.if-next-leaf.false l

@@ -7,4 +7,4 @@ use Rattle.ways.proofs.needs.is_dimension.Goals as goal
 pub returns : goal.returns
 unfolding is_a is_dimension
 returns c =
-    rw (← letter_integer c.args.r.mark, ← c.of.ensures, ← c.is_integer-marked.ensures) c.is_a_lem.ensures
+    rw (← letter_integer c.args.r.mark, ← c.of.ensures, ← c.is_integer-marked.ensures) c.is_a.ensures

@@ -6,4 +6,4 @@ use Rattle.ways.proofs.needs.is_fixed.Goals as goal
 pub returns : goal.returns
 unfolding is_a is_fixed
 returns c =
-    rw (← c.is_letter-marked.ensures) c.is_a_lem.ensures
+    rw (← c.is_letter-marked.ensures) c.is_a.ensures

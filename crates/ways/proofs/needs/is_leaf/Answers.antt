@@ -7,4 +7,4 @@ use Rattle.ways.proofs.needs.is_leaf.Goals as goal
 pub returns : goal.returns
 unfolding is_a is_leaf_row
 returns c =
-    rw (← letter_leaf c.args.r.mark, ← c.of.ensures, ← c.is_leaf-marked.ensures) c.is_a_lem.ensures
+    rw (← letter_leaf c.args.r.mark, ← c.of.ensures, ← c.is_leaf-marked.ensures) c.is_a.ensures

@@ -7,4 +7,4 @@ use Rattle.ways.proofs.needs.is_packed.Goals as goal
 pub returns : goal.returns
 unfolding is_a is_packed
 returns c =
-    rw (← letter_type c.args.r.mark, ← c.of.ensures, ← c.is_type-marked.ensures) c.is_a_lem.ensures
+    rw (← letter_type c.args.r.mark, ← c.of.ensures, ← c.is_type-marked.ensures) c.is_a.ensures

@@ -6,4 +6,4 @@ use Rattle.ways.proofs.needs.is_schema.Goals as goal
 pub returns : goal.returns
 unfolding is_a is_schema
 returns c =
-    rw (← c.is_letter-marked.ensures) c.is_a_lem.ensures
+    rw (← c.is_letter-marked.ensures) c.is_a.ensures

@@ -1,0 +1,9 @@
+-- `leaf_over`: a leaf's width fits, and its column is looked at. Assumes nothing.
+use native.Mathlib.Omega.{arith}
+use borrow.Author.Rules.{rules}
+use Rattle.columns.proofs.Leaves.{leaf_over_lem}
+use Rattle.columns.proofs.leaf_over.Goals as goal
+
+pub returns-clause-is : goal.returns-clause-is
+returns-clause-is c =
+    (λ h i. leaf_over_lem _ _ _ _ _ _ _ _ _ (c.leaf_column-lowest.ensures.is h i))
