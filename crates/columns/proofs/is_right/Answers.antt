@@ -8,4 +8,4 @@ use Rattle.columns.proofs.is_right.Goals as goal
 
 pub returns : goal.returns
 returns c =
-    ((λ c h. c.is_content.ensures ∙ ap (is_content _) (part_is _ _ _))) c
+    λ h. c.is_content.ensures ∙ ap (is_content _) (part_is _ _ _)

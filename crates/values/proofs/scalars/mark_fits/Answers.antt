@@ -9,10 +9,10 @@ use Rattle.values.proofs.scalars.mark_fits.Goals as goal
 pub returns-then-not-is_scalar : goal.returns-then-not-is_scalar
 returns-then-not-is_scalar c =
     let tested : is_scalar c.args.mark ≡ c.is_scalar.result = sym (c.is_scalar.ensures ∙ ap is_scalar c.of-letter.ensures ∙ letter_scalar _) in
-    rw (tested ∙ not-true c.is_scalar.result c.if-not-is_scalar.true)
+    rw (tested ∙ c.if-not-is_scalar.true)
 
 pub returns : goal.returns
 returns c =
     let tested : is_scalar c.args.mark ≡ c.is_scalar.result = sym (c.is_scalar.ensures ∙ ap is_scalar c.of-letter.ensures ∙ letter_scalar _) in
-    let e = tested ∙ not-false c.is_scalar.result c.if-not-is_scalar.false in
+    let e = tested ∙ c.if-not-is_scalar.false in
     rw (e, c.due.ensures, c.of-letter.ensures, letter_is _ e)

@@ -61,4 +61,4 @@ returns-clause-is c =
     let there : within (length c.args.message.now) c.args.first c.args.wide ≡ true = sym c.within.ensures ∙ c.if-not-within.false in
     let letter : c.of-letter.result.0 ≡ c.args.mark = c.of-letter.ensures ∙ letter_is _ (marked _ _ _ fitting).0 in
     let tested : is_content c.args.mark (bytes c.args.message.now c.args.first c.args.wide) ≡ c.is_content.result = sym (c.is_content.ensures ∙ ap₂ is_content (letter) (part_is _ _ _)) in
-    let v = c.value_of-value.ensures in ap (λ x. done (record { kind = kind_of c.args.kind; value = x })) (v.0 ∙ ap₂ value_of (letter) (part_is _ _ _)) ∙ read _ _ _ _ (fitting) (there) (tested ∙ c.if-not-is_content.false)
+    let v = c.value_of-value.ensures in ap (λ x. done (record { kind = kind_of c.args.kind; value = x })) (v.is ∙ ap₂ value_of (letter) (part_is _ _ _)) ∙ read _ _ _ _ (fitting) (there) (tested ∙ c.if-not-is_content.false)

@@ -26,7 +26,7 @@ pub returns-then-is_signed-clause-is : goal.returns-then-is_signed-clause-is
 unfolding Values.value_of if◌then◌else◌ among integers is_integer signed_integers is_signed is_boolean
 returns-then-is_signed-clause-is c =
     let number : c.little_endian-n.result ≡ little c.args.bytes.now = number_is c.args.mark.0 _ _ c.little_endian-n.ensures c.requires in
-    let s = sym c.is_signed.ensures ∙ c.if-is_signed.true in rw s (ap Values.signed (to_z-of_z {w = w64} (record { sfits = c.signed.type-inv }) ∙ c.signed.ensures ∙ ap (Values.twos_complement _) (number)))
+    let s = sym c.is_signed.ensures ∙ c.if-is_signed.true in rw s (ap Values.signed (to_z-of_z {w = w64} (record { sfits = c.signed.type_inv }) ∙ c.signed.ensures ∙ ap (Values.twos_complement _) (number)))
 
 pub returns-then-is_integer-clause-is : goal.returns-then-is_integer-clause-is
 unfolding Values.value_of if◌then◌else◌ among integers is_integer signed_integers is_signed is_boolean
