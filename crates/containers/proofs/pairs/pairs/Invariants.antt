@@ -1,0 +1,18 @@
+-- `pairs`: a loop over the pairs. Assumes nothing.
+use Prim.Native.Nat.{◌-◌}
+use mathlib.Core.Path.{◌≡◌, refl, ◌∙◌}
+use native.Mathlib.Omega.{arith}
+use borrow.Author.Rules.{rules}
+use lib.ListN.{length}
+use Rattle.rows.specs.Row.{ancestry_of}
+use Rattle.containers.specs.Lists.{pair_of}
+use Rattle.containers.proofs.Loops.{Going, Some, some_start, some_step, some_fault, some_end}
+use Rattle.containers.proofs.pairs.pairs.Given as goal
+
+abbrev pub invariant-loop-count : goal.invariant-loop-count
+invariant-loop-count l = Going l.message l.lent l.start l.at l.row l.count
+    × (length l.rows ≡ length l.initial.rows)
+    × Some l.n (pair_of l.message l.lent l.mark) l.start l.first (ancestry_of l.ancestry) l.initial.rows l.at l.row l.count l.rows
+
+abbrev pub decreases-loop-count : goal.decreases-loop-count
+decreases-loop-count l = l.n - l.count
