@@ -100,7 +100,7 @@ in_first (index {i = i} {d = d} {is = is} h r) = in_each _ (in_first r) (Memᴰ.
 of_last : {is : List ℕ} (ds : List ℕ) → Memᴰ is (last_moving ds) → Below is ds
 unfolding last_moving
 of_last [] m = rw (Memᴰ.eq_of_singleton m) no_index
-of_last {is = is} (d ∷ ds) m =
+of_last (d ∷ ds) m =
     let r = of_each _ (below d) m in
     let s = Memᴰ.of_map _ _ r.2 in
     subst (λ js. Below js (d ∷ ds)) s.2 (index (of_below d r.1) (of_last {is = s.0} ds s.1))
@@ -108,7 +108,7 @@ of_last {is = is} (d ∷ ds) m =
 of_first : {is : List ℕ} (ds : List ℕ) → Memᴰ is (first_moving ds) → Below is ds
 unfolding first_moving
 of_first [] m = rw (Memᴰ.eq_of_singleton m) no_index
-of_first {is = is} (d ∷ ds) m =
+of_first (d ∷ ds) m =
     let r = of_each _ (first_moving ds) m in
     let s = Memᴰ.of_map _ _ r.2 in
     subst (λ js. Below js (d ∷ ds)) s.2 (index (of_below d s.1) (of_first {is = r.0} ds r.1))
