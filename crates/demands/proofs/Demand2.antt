@@ -15,7 +15,7 @@ use Rattle.format.specs.Read.{read, read_into, rows_used, words_after}
 use Rattle.format.specs.HouseForm.{house, output_after, rewrite_words_after}
 use Rattle.laws.specs.Places.{At, here, under, later}
 use Rattle.laws.proofs.Holds.{of_done}
-use Rattle.laws.proofs.Order.{is_offset, InOrder, step, order_size}
+use Rattle.laws.proofs.Order.{is_offset, InOrder, stop, step, order_size}
 use Rattle.laws.proofs.Bounds.{read_bounded}
 use Rattle.laws.proofs.Reading.{first_bytes_rise}
 use Rattle.storage.specs.Places.{Top, Rowed}
@@ -51,8 +51,9 @@ in_record dimension = inl refl
 in_record extension = inl refl
 
 -- the payload of a token that has no offset lies between the bounds of the tokens
-payload_between : {n k low high : ℕ} {t : Token} {f v : Forest} → InOrder low high f → At n f k t v → is_offset t.kind ≡ false
+payload_between : {low high n k : ℕ} {t : Token} {f v : Forest} → InOrder low high f → At n f k t v → is_offset t.kind ≡ false
     → (t.first ≤ t.payload) × (t.payload + t.extent ≤ high)
+payload_between (stop _) x c = elim x [ ]
 payload_between (step h u r a) here c = let i = r.inside c in let y = order_size a in (i.0, omega arith)
 payload_between (step h u r a) (under x) c = let i = payload_between u x c in let y = order_size a in let z = r.on in (i.0, omega arith)
 payload_between (step h u r a) (later x) c = payload_between a x c

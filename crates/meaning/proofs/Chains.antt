@@ -187,7 +187,7 @@ module _ (m h : List ℕ) (most : ℕ) where
       let e' = house_split f g (closing ∷ l) e in
       byte_known h _ (begun o (house m g ++ closing ∷ l) e') (passed (eqb o.head closing) _ (differs bad o.head closing t o.fits)
       (seq_same (closing ∷ l) (λ next. From h next (closing ∷ l)) at row p.reads e s λ next row' d s'.
-      chain_until closing fuel t c next row' l
+      chain_until {f = g} closing fuel t c next row' l
       (omega (arith, from_length h at _ e', from_length h next _ d, length-append (house m f) (house m g ++ closing ∷ l), ap length o.split)) d s'))
 
   -- dimensions up to `]`, of which so many may be read
@@ -201,7 +201,7 @@ module _ (m h : List ℕ) (most : ℕ) where
       let o = p.begins in
       byte_known h _ (begun o (house m g ++ ']' ∷ l) (house_split f g (']' ∷ l) e)) (passed (eqb o.head ']') _ (differs bad o.head ']' t o.fits)
       (seq_same (']' ∷ l) (λ next. From h next l) at row p.reads e s λ next row' d s'.
-      chain_listed rows_lent left place t (omega (arith, one_more f g n)) c next row' l d s'))
+      chain_listed {f = g} rows_lent left place t (omega (arith, one_more f g n)) c next row' l d s'))
 
   -- one or more, up to a closing mark
   pub chain_some : {bad : List ℕ} {item : Reader} {f g : Forest} (closing : ℕ) → among bad closing ≡ true → Reading bad item f → Chain bad item g → (at row : ℕ) (l : List ℕ)

@@ -17,12 +17,13 @@ use Rattle.laws.specs.Places.{At, here, under, later}
 use Rattle.laws.proofs.Holds.{of_done}
 use Rattle.laws.proofs.Schemas.{group_kind}
 use Rattle.meaning.specs.Rewriting.{InHouseForm}
-use Rattle.meaning.specs.Standing.{Stands, AllStand, next_token}
+use Rattle.meaning.specs.Standing.{Stands, AllStand, no_token, next_token}
 use Rattle.meaning.proofs.Accepting.{read_finds}
 use Rattle.meaning.proofs.RoundTrip.{house_stands}
 
 -- the token at a row is one of them
 all_at : {h : List ℕ} {f below : Forest} {n k : ℕ} {t : Token} → AllStand h f → At n f k t below → Stands h t below
+all_at no_token a = elim a [ ]
 all_at (next_token s u r) here = s
 all_at (next_token s u r) (under a) = all_at u a
 all_at (next_token s u r) (later a) = all_at r a

@@ -154,6 +154,7 @@ accepted_marked (a_group levels o at w p q) = a_token (by_mark (opens_other o)) 
 accepted_marked (a_table levels o at start row n p g w c q fill) = a_token (by_mark (opens_other o)) (marked_append (marked_placed 0 (accepted_marked p)) (accepted_marked q)) no_token
 
 own_at : {f below : Forest} {n k : ℕ} {t : Token} → Marked f → At n f k t below → Own t
+own_at no_token a = elim a [ ]
 own_at (a_token o u r) here = o
 own_at (a_token o u r) (under a) = own_at u a
 own_at (a_token o u r) (later a) = own_at r a

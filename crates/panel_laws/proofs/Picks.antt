@@ -42,7 +42,7 @@ pub record PickedAt {A : Type 0} (number : A → ℕ) (l : List A) (i n : ℕ) :
   pub picked : pick l i ≡ done one
   pub numbered : number one ≡ n
 
-pub pick_numbered : {A : Type 0} {number : A → ℕ} {k end : ℕ} {l : List A} → Numbered number end k l → (i : ℕ) → k + i < end → PickedAt number l i (k + i)
+pub pick_numbered : {A : Type 0} {number : A → ℕ} {end k : ℕ} {l : List A} → Numbered number end k l → (i : ℕ) → k + i < end → PickedAt number l i (k + i)
 unfolding pick
 pick_numbered (stop e) i h = absurd (omega arith)
 pick_numbered (step {a = a} e r) zero h = record { one = a; picked = refl; numbered = omega arith }

@@ -110,7 +110,7 @@ module _ {A : Type 0} {number : A → ℕ} {count : ℕ} {l : List A} (numbered 
       let d = ap (λ y. number a * y) h.1 in
       rw (columns_step offset n u below after) (Memᴰ.append_left _ (in_cut numbered (count * offset) (member_width u) _ m (in_leaves a (alone p) x k _ _ (omega arith))))
   in_columns_from {offset} {n} p (next {u = u} {below = below} {after = after} x) k m =
-      rw (columns_step offset n u below after) (Memᴰ.append_right (column n u below (count * offset)) (in_columns_from (rest p) x k m))
+      rw (columns_step offset n u below after) (Memᴰ.append_right (column n u below (count * offset)) (in_columns_from {offset = offset + member_width u} (rest p) x k m))
 
   -- and every slot is a leaf's
   of_columns_from : {offset n : ℕ} (wide : ℕ) (f : Forest) {s : Slot A} → Placed offset f → Memᴰ s (by_columns n f l (count * offset)) → TableSlot n f (formula_of brace count wide) s
@@ -127,7 +127,7 @@ module _ {A : Type 0} {number : A → ℕ} {count : ℕ} {l : List A} (numbered 
             let d = ap (λ z. number x.0 * z) h.1 in
             table_slot (formula_of brace count wide) (own y.found) y.is_leaf x.1 y.slot_is (let q = y.place_is in omega arith))
         | inr h ↦ (
-            let x = of_columns_from wide after (rest p) h in
+            let x = of_columns_from {offset = offset + member_width t} wide after (rest p) h in
             record { row = x.row; field = x.field; token = x.token; found = next x.found; is_leaf = x.is_leaf; in_list = x.in_list; slot_is = x.slot_is })
       ]
 

@@ -14,6 +14,7 @@ module _ {A : Type 0} {number : A → ℕ} {end : ℕ} (base w : ℕ) (cut : A �
   in_end : {k : ℕ} {l : List A} {a : A} {s : Slot A} → Numbered number end k l → Memᴰ a l → Memᴰ s (cut a (base + number a * w))
       → Memᴰ s (end_to_end l w cut (base + k * w))
   unfolding end_to_end
+  in_end (stop _) x m = elim x [ ]
   in_end {s = s} (step {a = b} q r) (Memᴰ.head e) m =
       Memᴰ.append_left _ (subst (λ x. Memᴰ s (cut b (base + x * w))) q (subst (λ x. Memᴰ s (cut x (base + number x * w))) e m))
   in_end {k = k} {s = s} (step {a = b} {l = l} q r) (Memᴰ.tail n) m =

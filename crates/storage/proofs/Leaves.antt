@@ -150,4 +150,4 @@ holds_leaf (placed_group o {t = t} e p w u r) x k = (p, group_width o t e)
 -- a leaf stands in its field
 pub field_from : {offset n row leaf_row : ℕ} {f : Forest} {u l : Token} → Placed offset f → Field n f row u leaf_row l → l.kind ≡ kind_of_leaf → u.payload ≤ l.payload
 field_from p (own x) k = let h = holds_leaf (alone p) x k in let g = leaf_from (alone p) x k in omega arith
-field_from p (next x) k = field_from (rest p) x k
+field_from {offset} p (next {u = u} x) k = field_from {offset = offset + member_width u} (rest p) x k

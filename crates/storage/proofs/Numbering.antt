@@ -103,7 +103,7 @@ of_last [] m = rw (Memᴰ.eq_of_singleton m) no_index
 of_last (d ∷ ds) m =
     let r = of_each _ (below d) m in
     let s = Memᴰ.of_map _ _ r.2 in
-    subst (λ js. Below js (d ∷ ds)) s.2 (index (of_below d r.1) (of_last ds s.1))
+    subst (λ js. Below js (d ∷ ds)) s.2 (index (of_below d r.1) (of_last {is = s.0} ds s.1))
 
 of_first : {is : List ℕ} (ds : List ℕ) → Memᴰ is (first_moving ds) → Below is ds
 unfolding first_moving
@@ -111,7 +111,7 @@ of_first [] m = rw (Memᴰ.eq_of_singleton m) no_index
 of_first (d ∷ ds) m =
     let r = of_each _ (first_moving ds) m in
     let s = Memᴰ.of_map _ _ r.2 in
-    subst (λ js. Below js (d ∷ ds)) s.2 (index (of_below d s.1) (of_first ds r.1))
+    subst (λ js. Below js (d ∷ ds)) s.2 (index (of_below d s.1) (of_first {is = r.0} ds r.1))
 
 -- ---- their numbers
 
@@ -129,17 +129,17 @@ module _ {A : Type 0} {number : A → ℕ} where
   counted h r = step h r
 
   -- said with other numbers that are the same
-  numbered_at : {k end : ℕ} {l : List A} (k' end' : ℕ) → k ≡ k' → end ≡ end' → Numbered number end k l → Numbered number end' k' l
+  numbered_at : {end k : ℕ} {l : List A} (k' end' : ℕ) → k ≡ k' → end ≡ end' → Numbered number end k l → Numbered number end' k' l
   numbered_at k' end' p q (stop h) = ended (omega arith)
   numbered_at k' end' p q (step h r) = counted (omega arith) (numbered_at (suc k') end' (omega arith) q r)
 
   -- one list, and then another
-  numbered_append : {k mid end : ℕ} {l r : List A} → Numbered number mid k l → Numbered number end mid r → Numbered number end k (l ++ r)
+  numbered_append : {mid end k : ℕ} {l r : List A} → Numbered number mid k l → Numbered number end mid r → Numbered number end k (l ++ r)
   numbered_append (stop h) b = numbered_at _ _ (sym h) refl b
   numbered_append (step h a) b = step h (numbered_append a b)
 
   -- as many as there are numbers
-  numbered_from : {k end : ℕ} {l : List A} → Numbered number end k l → k + length l ≡ end
+  numbered_from : {end k : ℕ} {l : List A} → Numbered number end k l → k + length l ≡ end
   numbered_from (stop h) = omega arith
   numbered_from (step h r) = let x = numbered_from r in omega arith
 
@@ -157,7 +157,7 @@ pub numbered_below : (n : ℕ) → Numbered (λ i. i) n 0 (below n)
 numbered_below n = numbered_at 0 n refl (omega arith) (numbered_count 0 n)
 
 -- a list of things made of others, whose numbers are `base` higher
-numbered_map : {A B : Type 0} {number : A → ℕ} {number' : B → ℕ} {k end : ℕ} {l : List A} (g : A → B) (base : ℕ)
+numbered_map : {A B : Type 0} {number : A → ℕ} {number' : B → ℕ} {end k : ℕ} {l : List A} (g : A → B) (base : ℕ)
     → ((a : A) → number' (g a) ≡ base + number a) → Numbered number end k l → Numbered number' (base + end) (base + k) (map g l)
 numbered_map g base h (stop q) = ended (omega arith)
 numbered_map {k = k} g base h (step {a = a} q r) =
@@ -167,7 +167,7 @@ numbered_map {k = k} g base h (step {a = a} q r) =
 -- w for each of a list
 numbered_each : {A B : Type 0} {number : A → ℕ} {number' : B → ℕ} (f : A → List B) (w : ℕ)
     → ((a : A) → Numbered number' (w * number a + w) (w * number a) (f a))
-    → {k end : ℕ} {l : List A} → Numbered number end k l → Numbered number' (w * end) (w * k) (each l f)
+    → {end k : ℕ} {l : List A} → Numbered number end k l → Numbered number' (w * end) (w * k) (each l f)
 unfolding each
 numbered_each f w h (stop q) = stop (ap (λ x. w * x) q)
 numbered_each {number' = number'} f w h {k} (step {a = a} q r) =

@@ -40,16 +40,19 @@ at_exists (node t below after) n k h q = elim (dec_lt n k) [
 ]
 
 -- and of one only
+at_equal : {n k k' : ℕ} {f v v' : Forest} {t t' : Token} → At n f k t v → At n f k' t' v' → k ≡ k' → (t ≡ t') × (v ≡ v')
+at_equal here here e = (refl, refl)
+at_equal here (under y) e = let w = at_size y in absurd (omega arith)
+at_equal here (later y) e = let w = at_size y in absurd (omega arith)
+at_equal (under x) here e = let w = at_size x in absurd (omega arith)
+at_equal (later x) here e = let w = at_size x in absurd (omega arith)
+at_equal (under x) (under y) e = at_equal x y e
+at_equal (later x) (later y) e = at_equal x y e
+at_equal (under x) (later y) e = let w = at_size x in let z = at_size y in absurd (omega arith)
+at_equal (later x) (under y) e = let w = at_size x in let z = at_size y in absurd (omega arith)
+
 pub at_same : {n k : ℕ} {f v v' : Forest} {t t' : Token} → At n f k t v → At n f k t' v' → (t ≡ t') × (v ≡ v')
-at_same here here = (refl, refl)
-at_same here (under y) = let w = at_size y in absurd (omega arith)
-at_same here (later y) = let w = at_size y in absurd (omega arith)
-at_same (under x) here = let w = at_size x in absurd (omega arith)
-at_same (later x) here = let w = at_size x in absurd (omega arith)
-at_same (under x) (under y) = at_same x y
-at_same (later x) (later y) = at_same x y
-at_same (under x) (later y) = let w = at_size x in let z = at_size y in absurd (omega arith)
-at_same (later x) (under y) = let w = at_size x in let z = at_size y in absurd (omega arith)
+at_same x y = at_equal x y refl
 
 -- a row below a row
 pub at_below : {n k j : ℕ} {f v w : Forest} {t u : Token} → At n f k t v → At (suc k) v j u w → At n f j u w

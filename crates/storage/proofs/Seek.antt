@@ -188,16 +188,16 @@ module _ (ws : List ℕ) (leaf_row : ℕ) where
       (rw (group_not_leaf o _ _ i) (group_visit (group_no_leaf o i.kind_is)
       (rw (add-one n) (seek_law _ fuel n (suc n) _ u (rowed_under r) (ap is_schema at ∙ group_keyed o _ _ i) (ap (λ x. x.link) at) refl (omega arith)))
       (seek_law a fuel container _ stop m (rowed_later r) c e (omega arith) (omega arith))))
-  seek_law a (suc fuel) container n stop (key {t = k} j (leaf {t = t} i m)) r c e q h =
+  seek_law a (suc fuel) container n stop (key {t = k} j (leaf {t = t} {after = after} i m)) r c e q h =
       let here_on = rowed_later r in
       sought_as _ (schema_step a fuel container stop _ _ t (rowed_own here_on) (leaf_member _ _ i) (omega arith) (omega arith) e c n k (rowed_own r) (is_key_lem _ _ j) (omega arith))
       (pass (λ _. key_no_leaf j.kind_is) (λ l v x _. no_at x)
-      (rw (leaf_is _ _ i) (leaf_visit _ i.kind_is (seek_law a fuel container _ stop m (rowed_later here_on) c e (omega arith) (omega arith)))))
+      (rw (leaf_is _ _ i) (leaf_visit _ i.kind_is (seek_law {f = after} a fuel container _ stop m (rowed_later here_on) c e (omega arith) (omega arith)))))
   seek_law a (suc fuel) container n stop (key {t = k} j (group o {t = t} {below = below} i w u m)) r c e q h =
       let here_on = rowed_later r in
       let at = rowed_own here_on in
       sought_as _ (schema_step a fuel container stop _ _ t at (group_member o _ _ i) (omega arith) (omega arith) e c n k (rowed_own r) (is_key_lem _ _ j) (omega arith))
       (pass (λ _. key_no_leaf j.kind_is) (λ l v x _. no_at x)
       (rw (group_not_leaf o _ _ i) (group_visit (group_no_leaf o i.kind_is)
-      (rw add-one (seek_law _ fuel _ _ _ u (rowed_under here_on) (ap is_schema at ∙ group_keyed o _ _ i) (ap (λ x. x.link) at) refl (omega arith)))
+      (rw add-one (seek_law {k = keyed o} _ fuel _ _ _ u (rowed_under here_on) (ap is_schema at ∙ group_keyed o _ _ i) (ap (λ x. x.link) at) refl (omega arith)))
       (seek_law a fuel container _ stop m (rowed_later here_on) c e (omega arith) (omega arith)))))

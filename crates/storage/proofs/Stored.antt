@@ -53,7 +53,8 @@ pub data AllStored : Forest → Type 0 where
   token : {t : Token} {below after : Forest} → (IsCut t.kind → Stored t below) → AllStored below → AllStored after → AllStored (node t below after)
 
 -- wherever it stands
-pub at_stored : {n k : ℕ} {f v : Forest} {t : Token} → AllStored f → At n f k t v → IsCut t.kind → Stored t v
+pub at_stored : {f v : Forest} {n k : ℕ} {t : Token} → AllStored f → At n f k t v → IsCut t.kind → Stored t v
+at_stored no_token x c = elim x [ ]
 at_stored (token s u a) here c = s c
 at_stored (token s u a) (under x) c = at_stored u x c
 at_stored (token s u a) (later x) c = at_stored a x c

@@ -11,7 +11,8 @@ use Rattle.laws.specs.Tiles.{Tiles, no_slot, next_slot}
 use Rattle.laws.proofs.Slots.{tiles_end}
 
 -- each lies inside
-pub tile_inside : {A : Type 0} {from end : ℕ} {ss : List (Slot A)} {s : Slot A} → Tiles end from ss → Memᴰ s ss → (from ≤ s.offset) × (s.offset + s.wide ≤ end)
+pub tile_inside : {A : Type 0} {end from : ℕ} {ss : List (Slot A)} {s : Slot A} → Tiles end from ss → Memᴰ s ss → (from ≤ s.offset) × (s.offset + s.wide ≤ end)
+tile_inside (no_slot h) m = elim m [ ]
 tile_inside (next_slot {s = x} h r) (Memᴰ.head e) =
     let y = tiles_end r in
     let p = ap (λ z. z.offset) e in
@@ -20,7 +21,7 @@ tile_inside (next_slot {s = x} h r) (Memᴰ.head e) =
 tile_inside (next_slot h r) (Memᴰ.tail m) = let x = tile_inside r m in (omega arith, omega arith)
 
 -- a byte in between lies in one of them
-pub tiles_hold : {A : Type 0} {from end : ℕ} {ss : List (Slot A)} (byte : ℕ) → Tiles end from ss → from ≤ byte → byte < end
+pub tiles_hold : {A : Type 0} {end from : ℕ} {ss : List (Slot A)} (byte : ℕ) → Tiles end from ss → from ≤ byte → byte < end
     → (s : Slot A) × Memᴰ s ss × (s.offset ≤ byte) × (byte < s.offset + s.wide)
 tiles_hold byte (no_slot h) p q = absurd (omega arith)
 tiles_hold {from = from} byte (next_slot {s = s} h r) p q = elim (dec_lt byte (from + s.wide)) [
@@ -29,7 +30,7 @@ tiles_hold {from = from} byte (next_slot {s = s} h r) p q = elim (dec_lt byte (f
 ]
 
 -- two of them are one, or lie apart
-pub tiles_apart : {A : Type 0} {from end : ℕ} {ss : List (Slot A)} {x y : Slot A} → Tiles end from ss → Memᴰ x ss → Memᴰ y ss
+pub tiles_apart : {A : Type 0} {x y : Slot A} {end : ℕ} {ss : List (Slot A)} {from : ℕ} → Tiles end from ss → Memᴰ x ss → Memᴰ y ss
     → (x ≡ y) ⊎ Apart x.offset x.wide y.offset y.wide
 tiles_apart t (Memᴰ.head p) (Memᴰ.head q) = inl (p ∙ sym q)
 tiles_apart (next_slot {s = s} h r) (Memᴰ.head p) (Memᴰ.tail q) =

@@ -76,13 +76,13 @@ module _ (ws : List ℕ) where
     from_done a zero n no_dimension r e h = refl
     from_done a (suc fuel) n no_dimension r e h = rw (link-is, le-leb stop n (omega arith))
     from_done a zero n (one_dimension i d) r e h = absurd (omega arith)
-    from_done a (suc fuel) n (one_dimension {t = t} i d) r e h =
+    from_done a (suc fuel) n (one_dimension {t = t} {after = after} i d) r e h =
         let own = rowed_own r in
         rw (
           link-is,
           lt-leb stop n (omega arith),
           child_done is_dimension container stop n _ t a own (is_one plain_count _ _ i) (omega arith) (omega arith),
-          from_done a fuel _ d (rowed_later r) (omega arith) (omega arith),
+          from_done {f = after} a fuel _ d (rowed_later r) (omega arith) (omega arith),
           own,
         )
 
