@@ -31,7 +31,7 @@ group-returns-then-message-at-clause-is t c =
 pub group-loop-i-init : goal.group-loop-i-init
 group-loop-i-init t c =
     (
-  c.requires.1.near,
+  c.requires.near,
   omega arith,
   (λ lent row next f l e i.
       let a = c.args in

@@ -5,23 +5,7 @@ use borrow.Author.Rules.{rules}
 use Rattle.ends.proofs.EndLaws.{spans_ends}
 use Rattle.ends.proofs.scalars.scalar_end.Goals as goal
 
-returns : goal.Need-returns
-returns c h = absurd (omega arith)
-
-returns-2 : goal.Need-returns-2
-returns-2 c h = absurd (omega arith)
-
-returns-3 : goal.Need-returns-3
-returns-3 c h = absurd (omega arith)
-
-returns-4 : goal.Need-returns-4
-returns-4 c h = absurd (omega arith)
-
-returns-5 : goal.Need-returns-5
-returns-5 c h =
-    let b = (c.shared_slice_known-1.given c.args.at).fits in
-    spans_ends _ _ _ (rw (c.number-n.ensures, c.number.ensures) (c.requires.2.spans _ (omega (arith, b)))) (omega arith) (omega arith) (omega arith) c.if-both-eq-HIGH_CHAR.false (c.shared_slice_known-2-1.given (c.args.at + 1)).fits
-
 pub returns : goal.returns
 returns c =
-    (returns-5) c
+    λ h. let b = (c.shared_slice_known-1.given c.args.at).fits in
+    spans_ends _ _ _ (rw (c.number-n.ensures, c.number.ensures) (c.requires.2.spans _ (omega (arith, b)))) (omega arith) (omega arith) (omega arith) c.if-both-eq-HIGH_CHAR.false (c.shared_slice_known-2-1.given (c.args.at + 1)).fits

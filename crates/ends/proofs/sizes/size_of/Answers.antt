@@ -7,23 +7,13 @@ use Rattle.format.specs.Traits.{traits_of}
 use Rattle.format.proofs.MarkFacts.{width_few}
 use Rattle.ends.proofs.sizes.size_of.Goals as goal
 
-returns : goal.Need-returns
-returns c h = absurd (omega arith)
-
-returns-2 : goal.Need-returns-2
-returns-2 c h = absurd (omega arith)
-
-returns-3 : goal.Need-returns-3
-unfolding traits_of
-returns-3 c h =
-    let e = c.traits-traits.ensures in
-    (sym (ap (λ t. t.scalar) e) ∙ c.if-not-traits.false, c.if-mark-eq-CHAR.false, omega (arith, ap (λ t. t.width) e))
-
 pub overflow_add-result : goal.overflow_add-result
 unfolding traits_of
 overflow_add-result c =
     let e = ap (λ t. t.width) c.traits-traits.ensures in omega (arith, e, width_few c.args.mark)
 
 pub returns : goal.returns
+unfolding traits_of
 returns c =
-    (returns-3) c
+    λ h. let e = c.traits-traits.ensures in
+    (sym (ap (λ t. t.scalar) e) ∙ c.if-not-traits.false, c.if-mark-eq-CHAR.false, omega (arith, ap (λ t. t.width) e))
