@@ -1,7 +1,7 @@
 -- What reads tokens, and the ways to go on from one to the next. A reader starts at a place of the message and at a row.
 use Rattle.std.specs.Prelude.{ℕ, zero, suc, ◌+◌, List, length, ltb, eqb}
 use Rattle.format.specs.Conditions.{if◌then◌else◌}
-use Rattle.format.specs.Outcome.{Outcome, fault, done, Parsed, ◌>>=◌, ◌>>◌, guard}
+use Rattle.format.specs.Outcome.{Outcome, fault, done, Parsed, ◌>>=◌, guard}
 use Rattle.format.specs.Refusals.{ends_too_early, no_row_left}
 use Rattle.format.specs.Tokens.{Forest, none, size, ◌⊕◌}
 use Rattle.format.specs.Bytes.{byte, skip}

@@ -16,4 +16,4 @@ pub returns : goal.returns
 unfolding traits_of
 returns c =
     λ h. let e = c.traits-traits.ensures in
-    (sym (ap (λ t. t.scalar) e) ∙ c.if-not-traits.false, c.if-mark-eq-CHAR.false, omega (arith, ap (λ t. t.width) e))
+    (sym (ap (λ t. t.scalar) e) ∙ not-false _ c.if-not-traits.false, c.if-mark-eq-CHAR.false, omega (arith, ap (λ t. t.width) e))

@@ -1,6 +1,5 @@
 -- `Mark::is_leaf`: a leaf that is its mark alone, or `S`. Assumes nothing.
 use mathlib.Core.Path.{refl}
-use borrow.Author.Rules.{rules}
 use Rattle.format.specs.Marks.{is_leaf}
 use Rattle.format.proofs.marks.Mark.is_leaf.Goals as goal
 

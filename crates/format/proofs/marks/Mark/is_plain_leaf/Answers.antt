@@ -1,5 +1,4 @@
 -- `Mark::is_plain_leaf`: `T`, `Z`, or one of the thirteen. Assumes nothing.
-use borrow.Author.Rules.{rules}
 use borrow.Author.Tests.{eq-eqb, ne_eqb}
 use Rattle.format.specs.Conditions.{among}
 use Rattle.format.specs.Marks.{is_plain_leaf, is_type}

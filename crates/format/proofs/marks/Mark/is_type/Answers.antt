@@ -1,6 +1,5 @@
 -- `Mark::is_type`: a field of the traits. Assumes nothing.
 use mathlib.Core.Path.{ap}
-use borrow.Author.Rules.{rules}
 use Rattle.format.specs.Traits.{traits_of}
 use Rattle.format.proofs.marks.Mark.is_type.Goals as goal
 

@@ -1,5 +1,4 @@
 -- `Mark::leaf_width`: by whether the mark is `T`. Assumes nothing.
-use borrow.Author.Rules.{rules}
 use borrow.Author.Tests.{eq-eqb, ne_eqb}
 use Rattle.format.specs.Conditions.{if◌then◌else◌}
 use Rattle.format.specs.Marks.{leaf_width}

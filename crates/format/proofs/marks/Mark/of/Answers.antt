@@ -1,6 +1,5 @@
 -- `Mark::of`: by whether the word is a byte. Assumes nothing.
 use mathlib.Core.Path.{refl}
-use borrow.Author.Rules.{rules}
 use borrow.Author.Tests.{lt-ltb, le-ltb}
 use Rattle.format.specs.Conditions.{if◌then◌else◌}
 use Rattle.format.specs.Marks.{letter_of}

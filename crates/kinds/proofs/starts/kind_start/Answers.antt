@@ -1,0 +1,11 @@
+-- `kind_start`: by the class of the mark. Assumes nothing.
+use mathlib.Core.Path.{refl}
+use native.Mathlib.Omega.{arith}
+use borrow.Author.Rules.{rules}
+use Rattle.format.specs.Schemas.{nested}
+use Rattle.kinds.proofs.Cases.{kind_early}
+use Rattle.kinds.proofs.starts.kind_start.Goals as goal
+
+pub returns-then-end-at-clause-meets : goal.returns-then-end-at-clause-meets
+returns-then-end-at-clause-meets c =
+    kind_early _ _ _ _ _ c.if-end-at.true
