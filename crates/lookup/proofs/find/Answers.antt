@@ -19,16 +19,7 @@ use Rattle.lookup.specs.Keys.{member_of}
 use Rattle.lookup.proofs.Names.{EqualUpTo, equal, other_length, other_byte}
 use Rattle.lookup.proofs.Walk.{member_is, named, names, Walk, started, ended, stuck, hit, barred, higher, onward}
 use Rattle.lookup.proofs.find.Goals as goal
-
--- the walk over bytes was left at a mismatch, or the lengths differ
-differs : (c : goal.Left-bytes)
-    → named c.args.message.now c.args.rows.now c.args.name.now c.members.key ≡ false
-differs c =
-    names-are c.before
-    ∙ ⊎_elim
-    (λ a. other_length _ _ _ _ (reach c.before) a.left)
-    (λ b. other_byte _ _ _ _ (reach c.before) c.bytes.i (let l = b.1.left in let h = c.bytes.invariant.1 in omega arith) b.4.taken)
-    c.bytes-test.branch
+use Rattle.lookup.proofs.find.Goals.{else-bytes-test, then-bytes-test+else-i-wide+then-message-first}
 
 pub members-init : goal.members-init
 members-init c =
@@ -48,17 +39,38 @@ bounds-message-first c =
 pub returns-in_default-along : goal.returns-in_default-along
 returns-in_default-along c =
     let is : done c.in-Row.value ≡ member_of c.args.message.now c.args.rows.now c.args.stop c.members.key = rw c.in-Row.is at c.member.ensures in
-    barred _ _ _ _ _ _ c.members.invariant.1 c.members-test.true _ (is) (differs (goal.at.returns-in_default-along c).Left-bytes) _ (rw c.in_default-along.is at c.along.ensures)
+    let key_row : row_of c.load-k.result ≡ row_at c.args.rows.now c.members.key = c.load-k.ensures.there (omega (arith, c.members-test.true, c.requires)) in
+    let reach : c.load-k.result.payload + c.load-k.result.extent ≤ length c.args.message.now = inside c.args.message.now _ _ (rw (← key_row) at (member_is _ _ _ _ _ (sym is)).inside) in
+    let names_are : named c.args.message.now c.args.rows.now c.args.name.now c.members.key ≡ same (bytes c.args.message.now c.load-k.result.payload c.load-k.result.extent) c.args.name.now = names _ _ _ _ _ key_row in
+    let differs : named c.args.message.now c.args.rows.now c.args.name.now c.members.key ≡ false = names_are ∙ elim c.bytes-test.branch [
+      else-bytes-test w ↦ other_length _ _ _ _ reach w.bytes-test.false
+      | then-bytes-test+else-i-wide+then-message-first w ↦ other_byte _ _ _ _ reach c.bytes.i (let l = w.if-i-wide.false in let h = c.bytes.invariant.1 in omega arith) w.if-message-first.true
+    ] in
+    barred _ _ _ _ _ _ c.members.invariant.1 c.members-test.true _ is differs _ (rw c.in_default-along.is at c.along.ensures)
 
 pub members-smaller : goal.members-smaller
 members-smaller c =
     let is : done c.in-Row.value ≡ member_of c.args.message.now c.args.rows.now c.args.stop c.members.key = rw c.in-Row.is at c.member.ensures in
-    omega (arith, higher _ _ _ _ _ _ c.members.invariant.1 c.members-test.true _ (is) (differs (goal.at.members-smaller c).Left-bytes) _ (rw c.in-Row-along.is at c.along.ensures))
+    let key_row : row_of c.load-k.result ≡ row_at c.args.rows.now c.members.key = c.load-k.ensures.there (omega (arith, c.members-test.true, c.requires)) in
+    let reach : c.load-k.result.payload + c.load-k.result.extent ≤ length c.args.message.now = inside c.args.message.now _ _ (rw (← key_row) at (member_is _ _ _ _ _ (sym is)).inside) in
+    let names_are : named c.args.message.now c.args.rows.now c.args.name.now c.members.key ≡ same (bytes c.args.message.now c.load-k.result.payload c.load-k.result.extent) c.args.name.now = names _ _ _ _ _ key_row in
+    let differs : named c.args.message.now c.args.rows.now c.args.name.now c.members.key ≡ false = names_are ∙ elim c.bytes-test.branch [
+      else-bytes-test w ↦ other_length _ _ _ _ reach w.bytes-test.false
+      | then-bytes-test+else-i-wide+then-message-first w ↦ other_byte _ _ _ _ reach c.bytes.i (let l = w.if-i-wide.false in let h = c.bytes.invariant.1 in omega arith) w.if-message-first.true
+    ] in
+    omega (arith, higher _ _ _ _ _ _ c.members.invariant.1 c.members-test.true _ is differs _ (rw c.in-Row-along.is at c.along.ensures))
 
 pub members-preserved : goal.members-preserved
 members-preserved c =
     let is : done c.in-Row.value ≡ member_of c.args.message.now c.args.rows.now c.args.stop c.members.key = rw c.in-Row.is at c.member.ensures in
-    (c.bytes.invariant.0, onward _ _ _ _ _ _ c.members.invariant.1 c.members-test.true _ (is) (differs (goal.at.members-preserved c).Left-bytes) _ (rw c.in-Row-along.is at c.along.ensures))
+    let key_row : row_of c.load-k.result ≡ row_at c.args.rows.now c.members.key = c.load-k.ensures.there (omega (arith, c.members-test.true, c.requires)) in
+    let reach : c.load-k.result.payload + c.load-k.result.extent ≤ length c.args.message.now = inside c.args.message.now _ _ (rw (← key_row) at (member_is _ _ _ _ _ (sym is)).inside) in
+    let names_are : named c.args.message.now c.args.rows.now c.args.name.now c.members.key ≡ same (bytes c.args.message.now c.load-k.result.payload c.load-k.result.extent) c.args.name.now = names _ _ _ _ _ key_row in
+    let differs : named c.args.message.now c.args.rows.now c.args.name.now c.members.key ≡ false = names_are ∙ elim c.bytes-test.branch [
+      else-bytes-test w ↦ other_length _ _ _ _ reach w.bytes-test.false
+      | then-bytes-test+else-i-wide+then-message-first w ↦ other_byte _ _ _ _ reach c.bytes.i (let l = w.if-i-wide.false in let h = c.bytes.invariant.1 in omega arith) w.if-message-first.true
+    ] in
+    (c.bytes.invariant.0, onward _ _ _ _ _ _ c.members.invariant.1 c.members-test.true _ is differs _ (rw c.in-Row-along.is at c.along.ensures))
 
 pub returns-after-members : goal.returns-after-members
 returns-after-members c =
