@@ -20,10 +20,10 @@ pub returns-in-Number-clause-meets : goal.returns-in-Number-clause-meets
 returns-in-Number-clause-meets c =
     let i = c.integer in
     let e = c.in-Number.is in
-    let v = c.n-1.given.0 in
+    let v = c.in-Number in
     let a = c.args in
     let f = c.leaf in
     let b = rw e at i.ensures.bounds in
-    let h : a.at + 1 ≤ v.1.0 = omega arith in
-    let k : v.1.0 ≤ length a.message.now = omega arith in
-    let n : a.row < v.1.0 = omega (arith, c.requires.0.row_byte) in rw (text_there_lem _ _ _ _ _ _ c.if-lent-row.false (sym i.ensures.is ∙ ap parsed e)) f.ensures.meets
+    let h : a.at + 1 ≤ v.next = omega arith in
+    let k : v.next ≤ length a.message.now = omega arith in
+    let n : a.row < v.next = omega (arith, c.requires.0.row_byte) in rw (text_there_lem _ _ _ _ _ _ c.if-lent-row.false (sym i.ensures.is ∙ ap parsed e)) f.ensures.meets

@@ -1,0 +1,19 @@
+-- `alike`: a loop over scalars of one mark. Assumes nothing.
+use Prim.Native.Nat.{◌-◌}
+use native.Mathlib.Omega.{arith}
+use borrow.Author.Rules.{rules}
+use Rattle.format.specs.Marks.{bracket}
+use Rattle.rows.specs.Row.{ancestry_of}
+use Rattle.runs.proofs.MemberLaws.{Running, running_start, running_turn, value_passed, scalar_stands}
+use Rattle.runs.proofs.members.alike.Goals as goal
+
+pub loop-count-init : goal.loop-count-init
+loop-count-init c =
+    running_start _ _ _ _ _ _ _ _ c.requires.0
+
+pub loop-count-preserved : goal.loop-count-preserved
+loop-count-preserved c =
+    let s = c.alike_end-next.ensures (omega arith) in
+    let p = c.put_alone in
+    running_turn _ _ _ _ _ _ _ _ c.loop-count.invariant (omega arith) (omega arith) (omega arith) (omega arith) (omega arith) p.auto.rows
+    (value_passed _ _ _ _ _ _ _ _ _ (scalar_stands _ _ _ s) (omega arith) p.ensures)
