@@ -1,0 +1,25 @@
+-- `repeated`: so many items, one after another. Assumes nothing.
+use Prim.Native.Nat.{◌+◌, ◌-◌, ◌≤◌}
+use mathlib.Core.Path.{◌≡◌, refl, ◌∙◌}
+use native.Mathlib.Omega.{arith}
+use borrow.Author.Rules.{rules}
+use lib.ListN.{length}
+use Rattle.format.specs.Limits.{limit}
+use Rattle.format.specs.Sequences.{repeat}
+use Rattle.tokens.specs.Answers.{Here}
+use Rattle.tokens.proofs.Sofar.{seq_fault}
+use Rattle.dimensions.specs.Answers.{item_of}
+use Rattle.shapes.proofs.Cases.{repeat-none, repeat_more}
+use Rattle.rows.specs.Row.{ancestry_of}
+use Rattle.dimensions.proofs.Going.{Going, going_start, going_step, going_fault, going_end}
+use Rattle.shapes.proofs.vectors.repeated.Given as goal
+
+abbrev pub invariant-loop-left : goal.invariant-loop-left
+invariant-loop-left l = Here l.message l.lent l.here l.free
+    × (l.at ≤ l.here)
+    × (l.many ≤ limit + 1)
+    × (length l.rows ≡ length l.initial.rows)
+    × Going (repeat l.n (item_of l.message l.lent l.form) l.at l.row) l.row (ancestry_of l.ancestry) l.initial.rows (repeat l.left (item_of l.message l.lent l.form) l.here l.free) l.free l.many l.rows
+
+abbrev pub decreases-loop-left : goal.decreases-loop-left
+decreases-loop-left l = l.left
