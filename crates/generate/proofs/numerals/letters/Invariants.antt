@@ -1,0 +1,10 @@
+-- `numerals::letters`: a loop over letters. Assumes nothing.
+use lib.ListN.{length}
+use mathlib.Core.Path.{◌≡◌}
+use Rattle.generate.proofs.numerals.letters.Given as goal
+
+abbrev pub invariant-loop-left : goal.invariant-loop-left
+invariant-loop-left l = length l.buffer ≡ length l.initial.buffer
+
+abbrev pub decreases-loop-left : goal.decreases-loop-left
+decreases-loop-left l = l.left
