@@ -2,6 +2,7 @@
 #![tactic(auto)]
 
 pub mod editions;
+pub mod input;
 pub mod numbers;
 pub mod show;
 pub mod signed;

@@ -1,21 +1,21 @@
 // What the programs write.
-use libc::STDOUT_FILENO;
+use std::io;
 
 // A number.
-pub fn number(n: u64) {
-    io::print_decimal(STDOUT_FILENO, n);
+pub fn number(rt: &impl Print, n: u64) -> io::Result<()> {
+    rt.print(n)
 }
 
 // Bytes as they are.
-pub fn bytes(text: &[u8]) {
-    io::write_all(STDOUT_FILENO, text);
+pub fn bytes(rt: &impl Print, text: &[u8]) -> io::Result<()> {
+    rt.write_all(text)
 }
 
 // Three numbers, with a space between two.
-pub fn three(a: u64, b: u64, c: u64) {
-    number(a);
-    bytes(b" ");
-    number(b);
-    bytes(b" ");
-    number(c);
+pub fn three(rt: &impl Print, a: u64, b: u64, c: u64) -> io::Result<()> {
+    number(rt, a)?;
+    bytes(rt, b" ")?;
+    number(rt, b)?;
+    bytes(rt, b" ")?;
+    number(rt, c)
 }
