@@ -8,6 +8,13 @@ pub fn text() -> [u8; 1310720]
     [0; 1310720]
 }
 
+// For a message or a name.
+pub fn bytes() -> [u8; 4096]
+    ensures { 4096 ≡ length result }
+{
+    [0; 4096]
+}
+
 // For a list of numbers.
 pub fn numbers() -> [usize; 640]
     ensures { 640 ≡ length result }

@@ -7,8 +7,11 @@ mod lists;
 mod names;
 mod runs;
 
-fn main() {
+use lines::input::read_full;
+use std::io;
+
+fn main(rt: HostRuntime) -> io::Result<()> {
     let mut text = buffers::text();
-    let n = io::read_full(0, &mut text);
-    runs::all(&text[..n]);
+    let n = read_full(&mut rt.stdin(), &mut text)?;
+    runs::all(&rt, &text[..n])
 }

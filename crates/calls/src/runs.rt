@@ -9,6 +9,7 @@ use lines::words::word;
 use lookup::lookup;
 use slots::text::{number_in_table, text_in_table};
 use slots::value::{value_in_packed, value_in_table};
+use std::io;
 use texts::at_rows::{number_at_row, text_at_row};
 use values::at_rows::value_at_row;
 
@@ -21,46 +22,64 @@ struct Asked {
 }
 
 // Calls what is asked for.
-fn answer(message: &[u8], rows: &[u32], asked: Asked, indexes: &[usize], name: &[u8]) {
+fn answer(
+    rt: &impl Print,
+    message: &[u8],
+    rows: &[u32],
+    asked: Asked,
+    indexes: &[usize],
+    name: &[u8],
+) -> io::Result<()> {
     let call = asked.call;
     let row = asked.row;
     let leaf = asked.leaf;
     let size = lists::word(message.len());
     match call {
-        Call::PackedSlot => answers::located(packed_slot(rows, size, row, indexes)),
-        Call::TableSlot => answers::located(table_slot(rows, size, row, leaf, indexes)),
-        Call::ValueAtRow => answers::valued(value_at_row(message, rows, row)),
-        Call::ValueInPacked => answers::valued(value_in_packed(message, rows, row, indexes)),
-        Call::ValueInTable => answers::valued(value_in_table(message, rows, row, leaf, indexes)),
+        Call::PackedSlot => answers::located(rt, packed_slot(rows, size, row, indexes))?,
+        Call::TableSlot => answers::located(rt, table_slot(rows, size, row, leaf, indexes))?,
+        Call::ValueAtRow => answers::valued(rt, value_at_row(message, rows, row))?,
+        Call::ValueInPacked => answers::valued(rt, value_in_packed(message, rows, row, indexes))?,
+        Call::ValueInTable => answers::valued(
+            rt,
+            value_in_table(message, rows, row, leaf, indexes),
+        )?,
         Call::TextAtRow => {
             let part = text_at_row(message, rows, row);
-            answers::text(message, number_at_row(message, rows, row), part);
+            answers::text(rt, message, number_at_row(message, rows, row), part)?;
         }
         Call::TextInTable => {
             let part = text_in_table(message, rows, row, leaf, indexes);
             answers::text(
+                rt,
                 message,
                 number_in_table(message, rows, row, leaf, indexes),
                 part,
-            );
+            )?;
         }
-        Call::Lookup => answers::found(lookup(message, rows, row, name)),
+        Call::Lookup => answers::found(rt, lookup(message, rows, row, name))?,
         Call::Unknown => {
-            bytes(b"no such call");
+            bytes(rt, b"no such call")?;
         }
     }
-    bytes(b"\n");
+    bytes(rt, b"\n")
 }
 
 // The row, the leaf, the indexes and the name from a place on.
-fn ask(text: &[u8], at: usize, call: Call, message: &[u8], rows: &[u32]) {
+fn ask(
+    rt: &impl Print,
+    text: &[u8],
+    at: usize,
+    call: Call,
+    message: &[u8],
+    rows: &[u32],
+) -> io::Result<()> {
     let row = decimal(text, at);
     let second = past(text, at, b' ');
     let leaf = decimal(text, second);
     let third = past(text, second, b' ');
     let mut indexes = buffers::numbers();
     let n = list(text, third, &mut indexes);
-    let mut name = io::buffer();
+    let mut name = buffers::bytes();
     let w = word(text, past(text, third, b' '), &mut name, 0);
     let k = least(w.value, 4096);
     let asked = Asked {
@@ -68,31 +87,32 @@ fn ask(text: &[u8], at: usize, call: Call, message: &[u8], rows: &[u32]) {
         row: row.value,
         leaf: leaf.value,
     };
-    answer(message, rows, asked, &indexes[..n], &name[..k]);
+    answer(rt, message, rows, asked, &indexes[..n], &name[..k])
 }
 
 // One line.
-fn one(text: &[u8], at: usize) {
+fn one(rt: &impl Print, text: &[u8], at: usize) -> io::Result<()> {
     let first = past(text, at, b' ');
-    let mut message = io::buffer();
+    let mut message = buffers::bytes();
     let w = word(text, first, &mut message, 0);
     let n = least(w.value, 4096);
     let second = past(text, first, b' ');
     let mut rows = buffers::rows();
     let k = row_words(text, second, &mut rows);
     let third = past(text, second, b' ');
-    ask(text, third, named(text, at), &message[..n], &rows[..k]);
+    ask(rt, text, third, named(text, at), &message[..n], &rows[..k])
 }
 
 // Every line.
-pub fn all(text: &[u8]) {
+pub fn all(rt: &impl Print, text: &[u8]) -> io::Result<()> {
     let mut at: usize = 0;
     while at < text.len() {
-        one(text, at);
+        one(rt, text, at)?;
         let next = past(text, at, b'\n');
         if next <= at {
-            return;
+            return Ok(());
         }
         at = next;
     }
+    Ok(())
 }

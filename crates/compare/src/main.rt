@@ -9,12 +9,14 @@ mod runs;
 mod show;
 mod tally;
 
-fn main() {
+use std::io;
+
+fn main(rt: HostRuntime) -> io::Result<()> {
     let mut counts = buffers::counts();
     let mut message = buffers::message();
     let mut first = buffers::rows();
     let mut other = buffers::rows();
-    runs::all(&mut message, &mut first, &mut other, &mut counts);
-    runs::long(&mut first, &mut other, &mut counts);
-    show::summary(&counts);
+    runs::all(&rt, &mut message, &mut first, &mut other, &mut counts)?;
+    runs::long(&rt, &mut first, &mut other, &mut counts)?;
+    show::summary(&rt, &counts)
 }

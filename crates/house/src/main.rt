@@ -5,10 +5,13 @@ mod buffers;
 mod runs;
 mod show;
 
-fn main() {
+use lines::input::read_full;
+use std::io;
+
+fn main(rt: HostRuntime) -> io::Result<()> {
     let mut text = buffers::text();
-    let n = io::read_full(0, &mut text);
+    let n = read_full(&mut rt.stdin(), &mut text)?;
     let mut message = buffers::bytes();
     let mut output = buffers::bytes();
-    runs::all(&text[..n], &mut message, &mut output);
+    runs::all(&rt, &text[..n], &mut message, &mut output)
 }

@@ -8,6 +8,7 @@ use lines::numbers::{after, decimal};
 use lines::words::stored;
 use memory::least;
 use rows::ROW_WORDS;
+use std::io;
 
 // The words of so many rows, or of all the buffer's, and a remainder that changes with the rows.
 fn words_of(rows: usize) -> usize
@@ -20,33 +21,46 @@ fn words_of(rows: usize) -> usize
 }
 
 // One message, with so many rows lent.
-fn run(edition: Edition, message: &[u8], lent: usize, output: &mut [u8]) {
+fn run(
+    rt: &impl Print,
+    edition: Edition,
+    message: &[u8],
+    lent: usize,
+    output: &mut [u8],
+) -> io::Result<()> {
     let mut rows = buffers::rows();
     let mut read = buffers::rows();
     let n = words_of(lent);
-    show::line(edition, message, &mut rows[..n], &mut read[..n], output);
+    show::line(rt, edition, message, &mut rows[..n], &mut read[..n], output)
 }
 
 // One line; answers the place of the next.
-fn one(text: &[u8], at: usize, message: &mut [u8], output: &mut [u8]) -> usize {
+fn one(
+    rt: &impl Print,
+    text: &[u8],
+    at: usize,
+    message: &mut [u8],
+    output: &mut [u8],
+) -> io::Result<usize> {
     let named = edition(text, at);
     let lent = decimal(text, after(after(at)));
     let room = decimal(text, after(lent.next));
     let w = stored(text, room.next, message);
     let n = least(w.value, message.len());
     let k = least(room.value, output.len());
-    run(named, &message[..n], lent.value, &mut output[..k]);
-    after(w.next)
+    run(rt, named, &message[..n], lent.value, &mut output[..k])?;
+    Ok(after(w.next))
 }
 
 // Every line.
-pub fn all(text: &[u8], message: &mut [u8], output: &mut [u8]) {
+pub fn all(rt: &impl Print, text: &[u8], message: &mut [u8], output: &mut [u8]) -> io::Result<()> {
     let mut at: usize = 0;
     while at < text.len() {
-        let next = one(text, at, message, output);
+        let next = one(rt, text, at, message, output)?;
         if next <= at {
-            return;
+            return Ok(());
         }
         at = next;
     }
+    Ok(())
 }

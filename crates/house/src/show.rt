@@ -2,6 +2,7 @@
 use format::answers::{Answer, Edition};
 use lines::show::{bytes, number, three};
 use memory::{byte, fill_bytes, fill_words, least, same_words, sum, zero_bytes, zero_words};
+use std::io;
 
 // A run of more equal bytes than this is written as one of them and their number.
 const RUN: usize = 16;
@@ -16,9 +17,9 @@ fn digit(n: u8) -> u8 {
 }
 
 // A byte in hex.
-fn hex(b: u8) {
+fn hex(rt: &impl Print, b: u8) -> io::Result<()> {
     let pair = [digit(b / 16), digit(b)];
-    bytes(&pair);
+    bytes(rt, &pair)
 }
 
 // How many bytes from a place on are the same, of as many as the limit says.
@@ -39,87 +40,96 @@ fn is_long(output: &[u8], at: usize) -> bool {
 }
 
 // The bytes up to the next long run; answers the place after them.
-fn plain(output: &[u8], from: usize) -> usize {
+fn plain(rt: &impl Print, output: &[u8], from: usize) -> io::Result<usize> {
     let mut at = from;
     while at < output.len() && !is_long(output, at) {
-        hex(byte(output, at));
+        hex(rt, byte(output, at))?;
         at += 1;
     }
-    at
+    Ok(at)
 }
 
 // A word, as in the input: a long run, or the bytes up to the next; answers the place after it.
-fn word(output: &[u8], at: usize) -> usize {
-    bytes(b" ");
+fn word(rt: &impl Print, output: &[u8], at: usize) -> io::Result<usize> {
+    bytes(rt, b" ")?;
     if !is_long(output, at) {
-        return plain(output, at);
+        return plain(rt, output, at);
     }
     let n = run(output, at, output.len());
-    hex(byte(output, at));
-    bytes(b"*");
-    number(n as u64);
-    sum(at, n)
+    hex(rt, byte(output, at))?;
+    bytes(rt, b"*")?;
+    number(rt, n as u64)?;
+    Ok(sum(at, n))
 }
 
 // All words.
-fn words(output: &[u8]) {
+fn words(rt: &impl Print, output: &[u8]) -> io::Result<()> {
     let mut at: usize = 0;
     while at < output.len() {
-        let next = word(output, at);
+        let next = word(rt, output, at)?;
         if next <= at {
-            return;
+            return Ok(());
         }
         at = next;
     }
+    Ok(())
 }
 
 // The line's end, which says whether words or bytes are left that should be others.
-fn end(words_hold: bool, bytes_hold: bool) {
+fn end(rt: &impl Print, words_hold: bool, bytes_hold: bool) -> io::Result<()> {
     if !words_hold {
-        bytes(b" words left");
+        bytes(rt, b" words left")?;
     }
     if !bytes_hold {
-        bytes(b" bytes left");
+        bytes(rt, b" bytes left")?;
     }
-    bytes(b"\n");
+    bytes(rt, b"\n")
 }
 
 // The line of an accepted message: the rows must be those that the reader leaves, and the output zero after what is written.
 fn done(
+    rt: &impl Print,
     edition: Edition,
     message: &[u8],
     rows: &[u32],
     read: &mut [u32],
     output: &[u8],
     written: usize,
-) {
-    three(0, 0, written as u64);
+) -> io::Result<()> {
+    three(rt, 0, 0, written as u64)?;
     let n = least(written, output.len());
-    words(&output[..n]);
+    words(rt, &output[..n])?;
     reader::message::read(edition, message, read);
-    end(same_words(rows, read), zero_bytes(output, n));
+    end(rt, same_words(rows, read), zero_bytes(output, n))
 }
 
 // The line of a refusal: rows and output must be zero.
-fn refused(number: u32, place: usize, rows: &[u32], output: &[u8]) {
-    three(number as u64, place as u64, 0);
-    bytes(b" -");
-    end(zero_words(rows, 0), zero_bytes(output, 0));
+fn refused(
+    rt: &impl Print,
+    number: u32,
+    place: usize,
+    rows: &[u32],
+    output: &[u8],
+) -> io::Result<()> {
+    three(rt, number as u64, place as u64, 0)?;
+    bytes(rt, b" -")?;
+    end(rt, zero_words(rows, 0), zero_bytes(output, 0))
 }
 
 // Rewrites the message over words and bytes that are not zero, and writes the line.
 pub fn line(
+    rt: &impl Print,
     edition: Edition,
     message: &[u8],
     rows: &mut [u32],
     read: &mut [u32],
     output: &mut [u8],
-) {
+) -> io::Result<()> {
     fill_words(rows, 0xAAAA_AAAA);
     fill_words(read, 0x5555_5555);
     fill_bytes(output, 0xAA);
     match rewriter::message::rewrite(edition, message, rows, output) {
-        Answer::Done(written) => done(edition, message, rows, read, output, written),
-        Answer::Refused(refusal, place) => refused(refusal, place, rows, output),
+        Answer::Done(written) => done(rt, edition, message, rows, read, output, written),
+        Answer::Refused(refusal, place) => refused(rt, refusal, place, rows, output),
     }
 }

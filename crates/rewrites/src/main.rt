@@ -10,7 +10,9 @@ mod messages;
 mod show;
 mod tally;
 
-fn main() {
+use std::io;
+
+fn main(rt: HostRuntime) -> io::Result<()> {
     let mut counts = buffers::counts();
     let mut message = buffers::message();
     let mut output = buffers::output();
@@ -27,5 +29,5 @@ fn main() {
         &mut third,
         &mut counts,
     );
-    show::summary(&counts);
+    show::summary(&rt, &counts)
 }

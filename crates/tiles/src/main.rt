@@ -14,11 +14,14 @@ mod show;
 mod tally;
 mod tiling;
 
-fn main() {
+use std::io;
+
+fn main(rt: HostRuntime) -> io::Result<()> {
     let mut message = buffers::message();
     let mut other = buffers::message();
     let mut rows = buffers::rows();
     let mut again = buffers::rows();
     let mut list = buffers::list();
-    show::summary(messages::all(&mut message, &mut other, &mut rows, &mut again, &mut list));
+    let t = messages::all(&mut message, &mut other, &mut rows, &mut again, &mut list);
+    show::summary(&rt, t)
 }

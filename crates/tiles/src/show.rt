@@ -1,28 +1,28 @@
 // The summary.
 use crate::tally::Tally;
-use libc::STDOUT_FILENO;
+use std::io;
 
 // A line: a name and a number.
-fn line(name: &[u8], number: u64) {
-    io::write_all(STDOUT_FILENO, name);
-    io::write_all(STDOUT_FILENO, b": ");
-    io::print_decimal(STDOUT_FILENO, number);
-    io::write_all(STDOUT_FILENO, b"\n");
+fn line(rt: &impl Print, name: &[u8], number: u64) -> io::Result<()> {
+    rt.write_all(name)?;
+    rt.write_all(b": ")?;
+    rt.print(number)?;
+    rt.write_all(b"\n")
 }
 
 // All lines.
-pub fn summary(t: Tally) {
-    line(b"messages", t.messages);
-    line(b"accepted", t.accepted);
-    line(b"packed arrays", t.packed);
-    line(b"tables", t.tables);
-    line(b"skipped for too many slots", t.skipped);
-    line(b"addresses asked", t.asked);
-    line(b"outside addresses asked", t.outside);
-    line(b"values and texts read", t.read);
-    line(b"changes tried", t.changes);
-    line(b"changes accepted", t.kept);
-    line(b"slots compared", t.compared);
-    line(b"checksum", t.checksum);
-    line(b"faults", t.faults);
+pub fn summary(rt: &impl Print, t: Tally) -> io::Result<()> {
+    line(rt, b"messages", t.messages)?;
+    line(rt, b"accepted", t.accepted)?;
+    line(rt, b"packed arrays", t.packed)?;
+    line(rt, b"tables", t.tables)?;
+    line(rt, b"skipped for too many slots", t.skipped)?;
+    line(rt, b"addresses asked", t.asked)?;
+    line(rt, b"outside addresses asked", t.outside)?;
+    line(rt, b"values and texts read", t.read)?;
+    line(rt, b"changes tried", t.changes)?;
+    line(rt, b"changes accepted", t.kept)?;
+    line(rt, b"slots compared", t.compared)?;
+    line(rt, b"checksum", t.checksum)?;
+    line(rt, b"faults", t.faults)
 }

@@ -5,9 +5,12 @@ mod buffers;
 mod runs;
 mod show;
 
-fn main() {
+use lines::input::read_full;
+use std::io;
+
+fn main(rt: HostRuntime) -> io::Result<()> {
     let mut text = buffers::text();
-    let n = io::read_full(0, &mut text);
+    let n = read_full(&mut rt.stdin(), &mut text)?;
     let mut message = buffers::message();
-    runs::all(&text[..n], &mut message);
+    runs::all(&rt, &text[..n], &mut message)
 }
