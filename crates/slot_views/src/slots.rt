@@ -13,7 +13,7 @@ use numbers::{least, less, narrow, quotient, sum};
 use rows::{count, load};
 use show::dump;
 use show::scalars::refused;
-use wording::block::{line, spaces};
+use wording::block::{Block, line, spaces};
 use wording::digits::right;
 use wording::phrases::{Phrase, plain, with};
 
@@ -56,7 +56,7 @@ fn left(s: Listing, phrase: usize) -> Phrase {
 }
 
 // The bytes of slots that are left out: those from where the list has come to, before a byte.
-fn left_out(message: &[u8], end: usize, out: &mut [u8], mut s: Listing) -> Listing {
+fn left_out(message: &[u8], end: usize, out: &mut Block, mut s: Listing) -> Listing {
     let from = s.byte;
     if end <= from {
         return s;
@@ -69,7 +69,7 @@ fn left_out(message: &[u8], end: usize, out: &mut [u8], mut s: Listing) -> Listi
 }
 
 // The address of a slot, and what is in it.
-fn filled(message: &[u8], rows: &[u32], slot: Slot, out: &mut [u8], at: usize) -> usize {
+fn filled(message: &[u8], rows: &[u32], slot: Slot, out: &mut Block, at: usize) -> usize {
     let shown = one_slot::address_of(slot, out, at);
     let gap = spaces(out, shown, 2);
     let content = one_slot::content(message, rows, slot, out, gap);
@@ -83,7 +83,7 @@ fn by_bytes(
     slot: Slot,
     first: usize,
     end: usize,
-    out: &mut [u8],
+    out: &mut Block,
     s: Listing,
 ) -> Listing {
     let mut here = left_out(message, first, out, s);
@@ -102,7 +102,7 @@ fn placed(
     slot: Slot,
     first: usize,
     width: usize,
-    out: &mut [u8],
+    out: &mut Block,
     mut s: Listing,
 ) -> Listing {
     if s.hex {
@@ -119,7 +119,7 @@ fn placed(
 }
 
 // A slot that is refused; nothing where slots stand beside their bytes.
-fn unplaced(refusal: u32, out: &mut [u8], mut s: Listing) -> Listing {
+fn unplaced(refusal: u32, out: &mut Block, mut s: Listing) -> Listing {
     if s.hex {
         return s;
     }
@@ -135,7 +135,7 @@ fn slot(
     w: Way,
     named: usize,
     number: usize,
-    out: &mut [u8],
+    out: &mut Block,
     s: Listing,
 ) -> Listing {
     if !shape::names(rows, s.row, named) {
@@ -163,7 +163,7 @@ fn value_slots(
     from: usize,
     end: usize,
     number: usize,
-    out: &mut [u8],
+    out: &mut Block,
     s: Listing,
 ) -> Listing {
     let row = s.row;
@@ -184,7 +184,7 @@ fn values(
     rows: &[u32],
     from: usize,
     end: usize,
-    out: &mut [u8],
+    out: &mut Block,
     s: Listing,
 ) -> Listing {
     let count = s.count;
@@ -198,7 +198,7 @@ fn values(
 }
 
 // The top-level fields of a table, each with one value for each record.
-fn columns(message: &[u8], rows: &[u32], out: &mut [u8], s: Listing) -> Listing {
+fn columns(message: &[u8], rows: &[u32], out: &mut Block, s: Listing) -> Listing {
     let end = shape::schema_end(rows, s.row);
     let mut key = sum(s.row, 2);
     let mut list = s;
@@ -215,7 +215,7 @@ fn columns(message: &[u8], rows: &[u32], out: &mut [u8], s: Listing) -> Listing 
 }
 
 // The slots of a packed array or a table that are listed.
-fn listed(message: &[u8], rows: &[u32], out: &mut [u8], s: Listing) -> Listing {
+fn listed(message: &[u8], rows: &[u32], out: &mut Block, s: Listing) -> Listing {
     let row = s.row;
     if s.unit == 0 {
         return values(message, rows, row, sum(row, 1), out, s);
@@ -243,7 +243,7 @@ fn counted_in(message: &[u8], rows: &[u32], row: usize, mut s: Listing) -> Listi
 }
 
 // Says how many elements or records are left out, if any.
-fn more(out: &mut [u8], mut s: Listing) -> Listing {
+fn more(out: &mut Block, mut s: Listing) -> Listing {
     if s.total <= s.count {
         return s;
     }
@@ -252,7 +252,7 @@ fn more(out: &mut [u8], mut s: Listing) -> Listing {
 }
 
 // The slots of a packed array or a table, and what is left out of them.
-pub fn all(message: &[u8], rows: &[u32], row: usize, out: &mut [u8], s: Listing) -> Listing {
+pub fn all(message: &[u8], rows: &[u32], row: usize, out: &mut Block, s: Listing) -> Listing {
     let list = listed(message, rows, out, counted_in(message, rows, row, s));
     if list.hex {
         return left_out(message, payload_end(load(rows, row)), out, list);
@@ -261,7 +261,7 @@ pub fn all(message: &[u8], rows: &[u32], row: usize, out: &mut [u8], s: Listing)
 }
 
 // The row and the slots of a packed array or a table; the row alone where not all of its rows are held. Nothing of any other row.
-fn one(message: &[u8], rows: &[u32], row: usize, out: &mut [u8], mut s: Listing) -> Listing {
+fn one(message: &[u8], rows: &[u32], row: usize, out: &mut Block, mut s: Listing) -> Listing {
     let r = load(rows, row);
     if !held::has_slots(r) {
         return s;
@@ -276,7 +276,7 @@ fn one(message: &[u8], rows: &[u32], row: usize, out: &mut [u8], mut s: Listing)
 }
 
 // The slots of each packed array and table before a row.
-fn before(message: &[u8], rows: &[u32], end: usize, out: &mut [u8], at: usize) -> usize {
+fn before(message: &[u8], rows: &[u32], end: usize, out: &mut Block, at: usize) -> usize {
     let mut list = none(false, 0, room::all(message), at);
     let mut row: usize = 0;
     while row < end {
@@ -287,7 +287,7 @@ fn before(message: &[u8], rows: &[u32], end: usize, out: &mut [u8], at: usize) -
 }
 
 // The slots of each packed array and table, as far as rows are held.
-pub fn every(message: &[u8], rows: &[u32], needed: usize, out: &mut [u8], at: usize) -> usize {
+pub fn every(message: &[u8], rows: &[u32], needed: usize, out: &mut Block, at: usize) -> usize {
     let next = before(message, rows, held::before(rows, needed), out, at);
     tree::rest(rows, needed, words::MORE_SLOTS, out, next)
 }
