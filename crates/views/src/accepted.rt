@@ -7,7 +7,7 @@ use numbers::sum;
 use options::arguments::{Asked, is_plain, word};
 use options::lists;
 use slot_views::one_slot::Indexes;
-use slot_views::slots;
+use slot_views::slot_lists;
 use std::rt::Env;
 use wording::block::Block;
 
@@ -36,7 +36,7 @@ fn slots_view(
     at: usize,
 ) -> usize {
     if asked.slots {
-        return slots::every(message, rows, needed, out, at);
+        return slot_lists::every(message, rows, needed, out, at);
     }
     at
 }

@@ -7,7 +7,7 @@ use navigate::{room, walk};
 use numbers::less;
 use rows::{Row, load};
 use show::dump;
-use slot_views::slots;
+use slot_views::slot_lists;
 use wording::block::{Block, line};
 use wording::phrases::{Phrase, plain, with};
 
@@ -72,8 +72,8 @@ fn run(
 
 // The slots of the innermost open row.
 fn slots_of(message: &[u8], rows: &[u32], row: usize, out: &mut Block, mut w: Walk) -> Walk {
-    let begun = slots::none(true, w.byte, w.room, w.at);
-    let listed = slots::all(message, rows, row, out, begun);
+    let begun = slot_lists::none(true, w.byte, w.room, w.at);
+    let listed = slot_lists::all(message, rows, row, out, begun);
     w.at = listed.at;
     w.room = listed.room;
     w.byte = walk::payload_end(load(rows, row));
