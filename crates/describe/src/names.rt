@@ -8,7 +8,7 @@ use numbers::{narrow, sum};
 use rows::{count, load, store};
 use show::quoted;
 use show::scalars::refused;
-use wording::block::line;
+use wording::block::{Block, line};
 use wording::phrases::{plain, with};
 
 // The answer where a name may stand among the rows that are not held: no row left.
@@ -122,7 +122,7 @@ fn found(message: &[u8], rows: &mut [u32], path: &[u8]) -> Found {
 }
 
 // Why a path leads nowhere.
-fn nowhere(refusal: u32, out: &mut [u8], at: usize) -> usize {
+fn nowhere(refusal: u32, out: &mut Block, at: usize) -> usize {
     if refusal == NOT_HELD {
         return say(out, at, plain(words::NAME_NOT_HELD));
     }
@@ -134,7 +134,7 @@ fn nowhere(refusal: u32, out: &mut [u8], at: usize) -> usize {
 }
 
 // What a path leads to: a refusal, or a row and those below it.
-fn answered(message: &[u8], rows: &[u32], answer: Found, out: &mut [u8], at: usize) -> usize {
+fn answered(message: &[u8], rows: &[u32], answer: Found, out: &mut Block, at: usize) -> usize {
     match answer {
         Found::Refused(refusal) => nowhere(refusal, out, at),
         Found::Row(row) => {
@@ -145,7 +145,7 @@ fn answered(message: &[u8], rows: &[u32], answer: Found, out: &mut [u8], at: usi
 }
 
 // A path, and what it leads to.
-pub fn shown(message: &[u8], rows: &mut [u32], path: &[u8], out: &mut [u8], at: usize) -> usize {
+pub fn shown(message: &[u8], rows: &mut [u32], path: &[u8], out: &mut Block, at: usize) -> usize {
     let begun = say(out, at, plain(words::NAME));
     let told = quoted::plain(out, begun, path);
     let colon = say(out, told, plain(words::COLON));

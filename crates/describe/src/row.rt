@@ -12,6 +12,7 @@ use show::quoted::quoted;
 use show::scalars::{refused, valued};
 use texts::at_rows::number_at_row;
 use values::at_rows::value_at_row;
+use wording::block::Block;
 use wording::names;
 use wording::phrases::{Phrase, plain, with};
 
@@ -31,7 +32,7 @@ const DIMENSION: u32 = 12;
 const EXTENSION: u32 = 13;
 
 // The text that a call located, in quotes.
-pub fn located(message: &[u8], answer: Located, out: &mut [u8], at: usize) -> usize {
+pub fn located(message: &[u8], answer: Located, out: &mut Block, at: usize) -> usize {
     match answer {
         Located::At(first, width) => quoted(out, at, message, first, width),
         Located::Refused(number) => refused(out, at, number),
@@ -39,7 +40,7 @@ pub fn located(message: &[u8], answer: Located, out: &mut [u8], at: usize) -> us
 }
 
 // The text at a row.
-pub fn text_at(message: &[u8], rows: &[u32], row: usize, out: &mut [u8], at: usize) -> usize {
+pub fn text_at(message: &[u8], rows: &[u32], row: usize, out: &mut Block, at: usize) -> usize {
     located(message, number_at_row(message, rows, row), out, at)
 }
 
@@ -78,7 +79,7 @@ fn beginning(r: Row) -> Phrase {
 }
 
 // The dimensions, with a sign between two.
-fn dimensions(rows: &[u32], row: usize, out: &mut [u8], at: usize) -> usize {
+fn dimensions(rows: &[u32], row: usize, out: &mut Block, at: usize) -> usize {
     let n = shape::rank(rows, row);
     let mut next = wording::digits::number(out, at, shape::extent(rows, row, 0));
     let mut j: usize = 1;
@@ -107,7 +108,7 @@ fn shape_line(r: Row, cut: bool) -> usize {
 }
 
 // A count, or the dimensions and their product.
-fn shape_of(rows: &[u32], row: usize, r: Row, cut: bool, out: &mut [u8], at: usize) -> usize {
+fn shape_of(rows: &[u32], row: usize, r: Row, cut: bool, out: &mut Block, at: usize) -> usize {
     let p = with(shape_line(r, cut), r.count as usize, 0, 0);
     if cut || r.order == 0 {
         return say(out, at, p);
@@ -117,7 +118,7 @@ fn shape_of(rows: &[u32], row: usize, r: Row, cut: bool, out: &mut [u8], at: usi
 }
 
 // The shape of a packed array or a table, and how wide a table's records are.
-fn shaped(rows: &[u32], row: usize, r: Row, out: &mut [u8], at: usize) -> usize {
+fn shaped(rows: &[u32], row: usize, r: Row, out: &mut Block, at: usize) -> usize {
     let cut = is_cut(count(rows), r);
     let shown = shape_of(rows, row, r, cut, out, at);
     if cut || r.kind == PACKED {
@@ -128,7 +129,7 @@ fn shaped(rows: &[u32], row: usize, r: Row, out: &mut [u8], at: usize) -> usize 
 }
 
 // The bytes of an extension's payload; of more than a line's the first, and how many there are.
-fn payload(message: &[u8], r: Row, out: &mut [u8], at: usize) -> usize {
+fn payload(message: &[u8], r: Row, out: &mut Block, at: usize) -> usize {
     let first = r.payload as usize;
     let length = r.extent as usize;
     if length == 0 {
@@ -144,13 +145,13 @@ fn payload(message: &[u8], r: Row, out: &mut [u8], at: usize) -> usize {
 }
 
 // The name of an extension's id, and its payload.
-fn extension(message: &[u8], r: Row, out: &mut [u8], at: usize) -> usize {
+fn extension(message: &[u8], r: Row, out: &mut Block, at: usize) -> usize {
     let named = names::id(out, at, r.count as usize);
     payload(message, r, out, named)
 }
 
 // A row.
-pub fn shown(message: &[u8], rows: &[u32], row: usize, out: &mut [u8], at: usize) -> usize {
+pub fn shown(message: &[u8], rows: &[u32], row: usize, out: &mut Block, at: usize) -> usize {
     let r = load(rows, row);
     let kind = r.kind;
     let begun = say(out, at, beginning(r));
@@ -170,7 +171,7 @@ pub fn shown(message: &[u8], rows: &[u32], row: usize, out: &mut [u8], at: usize
 }
 
 // A row's number, and the row.
-pub fn numbered(message: &[u8], rows: &[u32], number: usize, out: &mut [u8], at: usize) -> usize {
+pub fn numbered(message: &[u8], rows: &[u32], number: usize, out: &mut Block, at: usize) -> usize {
     let begun = say(out, at, with(words::ROW, number, 0, 0));
     shown(message, rows, number, out, begun)
 }

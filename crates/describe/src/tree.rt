@@ -4,7 +4,7 @@ use crate::{row, words};
 use grid::held;
 use numbers::{less, sum};
 use rows::{Row, count, load};
-use wording::block::{byte, line, spaces};
+use wording::block::{Block, byte, line, spaces};
 use wording::digits::right;
 use wording::phrases::{plain, with};
 
@@ -14,7 +14,7 @@ const WIDE: usize = 8;
 const NARROW: usize = 6;
 
 // A row's number, and its first words: where the token and its payload stand, and how long the payload is.
-fn places(row: usize, r: Row, out: &mut [u8], at: usize) -> usize {
+fn places(row: usize, r: Row, out: &mut Block, at: usize) -> usize {
     let number = right(out, at, row, WIDE);
     let first = right(out, number, r.first as usize, WIDE);
     let payload = right(out, first, r.payload as usize, WIDE);
@@ -22,7 +22,7 @@ fn places(row: usize, r: Row, out: &mut [u8], at: usize) -> usize {
 }
 
 // The row that holds this one; the outermost is held by none.
-fn parent(r: Row, out: &mut [u8], at: usize) -> usize {
+fn parent(r: Row, out: &mut Block, at: usize) -> usize {
     if r.parent == 0 {
         let begun = spaces(out, at, WIDE - 1);
         return byte(out, begun, b'-');
@@ -31,7 +31,7 @@ fn parent(r: Row, out: &mut [u8], at: usize) -> usize {
 }
 
 // The other words: count, link, order, parent and depth.
-fn links(r: Row, out: &mut [u8], at: usize) -> usize {
+fn links(r: Row, out: &mut Block, at: usize) -> usize {
     let count = right(out, at, r.count as usize, WIDE);
     let next = right(out, count, r.link as usize, WIDE);
     let order = right(out, next, r.order as usize, NARROW);
@@ -45,7 +45,7 @@ fn row_line(
     rows: &[u32],
     row: usize,
     outer: usize,
-    out: &mut [u8],
+    out: &mut Block,
     at: usize,
 ) -> usize {
     let r = load(rows, row);
@@ -63,7 +63,7 @@ fn lines(
     rows: &[u32],
     from: usize,
     end: usize,
-    out: &mut [u8],
+    out: &mut Block,
     at: usize,
 ) -> usize {
     let outer = load(rows, from).depth as usize;
@@ -77,7 +77,7 @@ fn lines(
 }
 
 // Says how many of so many rows are not held, if any, by a phrase.
-pub fn rest(rows: &[u32], end: usize, phrase: usize, out: &mut [u8], at: usize) -> usize {
+pub fn rest(rows: &[u32], end: usize, phrase: usize, out: &mut Block, at: usize) -> usize {
     let left = less(end, count(rows));
     if left == 0 {
         return at;
@@ -91,7 +91,7 @@ pub fn some(
     rows: &[u32],
     from: usize,
     end: usize,
-    out: &mut [u8],
+    out: &mut Block,
     at: usize,
 ) -> usize {
     let next = lines(message, rows, from, held::before(rows, end), out, at);

@@ -5,7 +5,7 @@ use format::marks::Mark;
 use numbers::byte;
 use options::arguments::{Asked, read_by};
 use show::{dump, scalars};
-use wording::block::line;
+use wording::block::{Block, line};
 use wording::phrases::{Phrase, plain, put, with};
 
 // The refusal of a byte that is not allowed.
@@ -54,7 +54,7 @@ const ALL_ROWS: usize = 8;
 const WITH_MORE: usize = 9;
 
 // A phrase.
-fn say(out: &mut [u8], at: usize, p: Phrase) -> usize {
+fn say(out: &mut Block, at: usize, p: Phrase) -> usize {
     put(
         out,
         at,
@@ -73,7 +73,7 @@ this program holds # rows; with more the message is\x20",
 }
 
 // How many bytes a message has; more than the limit are not counted.
-pub fn size(message: &[u8], out: &mut [u8], at: usize) -> usize {
+pub fn size(message: &[u8], out: &mut Block, at: usize) -> usize {
     if message.len() <= LIMIT as usize {
         return say(out, at, with(SIZE, message.len(), 0, 0));
     }
@@ -89,7 +89,7 @@ fn rows(needed: usize, held: usize) -> Phrase {
 }
 
 // An accepted message has so many rows, of which so many are held.
-pub fn accepted(needed: usize, held: usize, paint: bool, out: &mut [u8], at: usize) -> usize {
+pub fn accepted(needed: usize, held: usize, paint: bool, out: &mut Block, at: usize) -> usize {
     let begun = dump::color(out, at, dump::GREEN, paint);
     let told = say(out, begun, plain(ACCEPTED));
     let ended = dump::color(out, told, dump::PLAIN, paint);
@@ -105,7 +105,7 @@ fn by_edition(edition: Edition) -> usize {
 }
 
 // A refusal's number, meaning and place.
-fn reason(message: &[u8], r: Refusal, out: &mut [u8], at: usize) -> usize {
+fn reason(message: &[u8], r: Refusal, out: &mut Block, at: usize) -> usize {
     let edition = r.edition;
     let told = scalars::refused(out, at, r.number);
     let shown = say(out, told, with(AT, r.place, 0, 0));
@@ -116,7 +116,7 @@ fn reason(message: &[u8], r: Refusal, out: &mut [u8], at: usize) -> usize {
 }
 
 // A refused message: why, and the bytes around the place.
-pub fn refused(message: &[u8], r: Refusal, out: &mut [u8], at: usize) -> usize {
+pub fn refused(message: &[u8], r: Refusal, out: &mut Block, at: usize) -> usize {
     let begun = dump::color(out, at, dump::RED, r.paint);
     let told = reason(message, r, out, begun);
     let plain = dump::color(out, told, dump::PLAIN, r.paint);
@@ -125,7 +125,7 @@ pub fn refused(message: &[u8], r: Refusal, out: &mut [u8], at: usize) -> usize {
 }
 
 // The same, and all of its bytes, if asked for.
-pub fn shown(message: &[u8], r: Refusal, hex: bool, out: &mut [u8], at: usize) -> usize {
+pub fn shown(message: &[u8], r: Refusal, hex: bool, out: &mut Block, at: usize) -> usize {
     let told = refused(message, r, out, at);
     if hex {
         return dump::lines(out, told, message, 0, message.len());
@@ -144,7 +144,7 @@ pub fn with_more(
     held: usize,
     answer: Answer,
     edition: Edition,
-    out: &mut [u8],
+    out: &mut Block,
     at: usize,
 ) -> usize {
     match answer {

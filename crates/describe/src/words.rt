@@ -1,4 +1,5 @@
 // The phrases of the views: lines of one table, by their numbers.
+use wording::block::Block;
 use wording::phrases::{Phrase, put};
 
 // From here on a row by its kind: its beginning.
@@ -107,7 +108,7 @@ pub const NAMELESS: usize = 64;
 pub const BYTES: usize = 65;
 
 // A phrase.
-pub fn say(out: &mut [u8], at: usize, p: Phrase) -> usize {
+pub fn say(out: &mut Block, at: usize, p: Phrase) -> usize {
     put(
         out,
         at,

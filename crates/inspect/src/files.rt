@@ -1,89 +1,90 @@
 // The files that the command line names.
 use crate::messages;
-use libc::STDIN_FILENO;
 use numbers::{least, sum};
 use options::arguments::Asked;
 use options::words::is_input;
 use options::{arguments, help};
 use show::quoted::plain;
-use wording::block::flush;
+use std::fs::File;
+use std::io;
+use std::io::Read;
+use wording::block;
+use wording::block::{Block, flush};
 
-// What was read: so many bytes, and whether a read failed after them.
-#[derive(Clone, Copy)]
-struct Bytes {
-    count: usize,
-    failed: bool,
-}
-
-// Reads until the room is full, the input ends or a read fails.
-fn read(fd: i32, room: &mut [u8]) -> Bytes {
+// Reads until the room is full, the input ends or a read fails; answers how many bytes were read, unless a read failed.
+fn read(from: &mut impl Read, room: &mut [u8]) -> io::Result<usize> {
     let mut count: usize = 0;
     while count < room.len() {
-        let got = libc::read(fd, &mut room[count..]);
-        let next = sum(count, io::count(got, room));
+        let got = from.read(&mut room[count..])?;
+        let next = sum(count, got);
         if next <= count {
-            return Bytes {
-                count: count,
-                failed: got < 0,
-            };
+            return Ok(count);
         }
         count = next;
     }
-    Bytes {
-        count: count,
-        failed: false,
-    }
+    Ok(count)
 }
 
 // Says why the file of this name can't be read.
-fn fail(name: &[u8], out: &mut [u8]) {
+fn fail(name: &[u8], why: io::Error, out: &mut Block) {
     let end = plain(out, 0, name);
-    let n = least(end, out.len());
-    os::fail(&out[..n]);
+    block::fail(out, end, why);
 }
 
 // A message under a name: in house form, or shown.
 fn message_named(
+    rt: &HostRuntime,
     name: &[u8],
     asked: Asked,
     message: &[u8],
     rows: &mut [u32],
     house: &mut [u8],
-    out: &mut [u8],
+    out: &mut Block,
 ) {
     if asked.house {
         messages::rewritten(name, message, rows, house, asked, out);
         return;
     }
     let named = plain(out, 0, name);
-    let end = messages::shown(message, rows, asked, out, named);
+    let end = messages::shown(rt, message, rows, asked, out, named);
     flush(out, end);
 }
 
-// The message that can be read from a descriptor, under a name.
+// The message that a reader has, under a name.
 fn message_of(
+    rt: &HostRuntime,
     name: &[u8],
-    fd: i32,
+    from: &mut impl Read,
     asked: Asked,
     message: &mut [u8],
     rows: &mut [u32],
     house: &mut [u8],
-    out: &mut [u8],
+    out: &mut Block,
 ) {
-    let input = read(fd, message);
-    if input.failed {
-        fail(name, out);
-        return;
+    match read(from, message) {
+        Ok(count) => {
+            let n = least(count, message.len());
+            message_named(rt, name, asked, &message[..n], rows, house, out);
+        }
+        Err(why) => {
+            fail(name, why, out);
+        }
     }
-    let n = least(input.count, message.len());
-    message_named(name, asked, &message[..n], rows, house, out);
 }
 
 // Standard input.
-fn input(asked: Asked, message: &mut [u8], rows: &mut [u32], house: &mut [u8], out: &mut [u8]) {
+fn input(
+    rt: &HostRuntime,
+    asked: Asked,
+    message: &mut [u8],
+    rows: &mut [u32],
+    house: &mut [u8],
+    out: &mut Block,
+) {
     message_of(
+        rt,
         b"standard input",
-        STDIN_FILENO,
+        &mut rt.stdin(),
         asked,
         message,
         rows,
@@ -92,57 +93,81 @@ fn input(asked: Asked, message: &mut [u8], rows: &mut [u32], house: &mut [u8], o
     );
 }
 
+// What the system says of a name that is no text.
+const NO_TEXT: i32 = 84;
+
+// The file of a name, which must be text.
+fn open(rt: &HostRuntime, name: &[u8]) -> io::Result<File> {
+    match str::from_utf8(name) {
+        Ok(path) => File::open(rt, path),
+        Err(_) => Err(io::Error::from_raw_os_error(NO_TEXT)),
+    }
+}
+
 // The file of argument i, if it is a file's.
 fn file(
+    rt: &HostRuntime,
     i: usize,
     is_file: bool,
     asked: Asked,
     message: &mut [u8],
     rows: &mut [u32],
     house: &mut [u8],
-    out: &mut [u8],
+    out: &mut Block,
 ) {
     if !is_file {
         return;
     }
-    let mut name = io::buffer();
-    let n = os::arg(i, &mut name);
+    let mut name = [0u8; 4096];
+    let n = arguments::word(rt, i, &mut name);
     if is_input(&name[..n]) {
-        input(asked, message, rows, house, out);
+        input(rt, asked, message, rows, house, out);
         return;
     }
-    let fd = os::open_read(&name[..n]);
-    if fd < 0 {
-        fail(&name[..n], out);
-        return;
+    match open(rt, &name[..n]) {
+        Ok(opened) => {
+            let mut file = opened;
+            message_of(rt, &name[..n], &mut file, asked, message, rows, house, out);
+        }
+        Err(why) => {
+            fail(&name[..n], why, out);
+        }
     }
-    message_of(&name[..n], fd, asked, message, rows, house, out);
-    libc::close(fd);
 }
 
 // Each file of so many arguments.
 fn each(
+    rt: &HostRuntime,
     count: usize,
     asked: Asked,
     message: &mut [u8],
     rows: &mut [u32],
     house: &mut [u8],
-    out: &mut [u8],
+    out: &mut Block,
 ) {
     let mut so_far = arguments::none();
     let mut i: usize = 1;
     while i < count {
         let before = so_far.files;
-        so_far = arguments::with(so_far, i, count);
-        file(i, before < so_far.files, asked, message, rows, house, out);
+        so_far = arguments::with(rt, so_far, i, count);
+        file(
+            rt,
+            i,
+            before < so_far.files,
+            asked,
+            message,
+            rows,
+            house,
+            out,
+        );
         i += 1;
     }
 }
 
 // Whether no file is looked at: an argument is bad, which is said, or help is asked for, which is shown.
-fn is_answered(asked: Asked, out: &mut [u8]) -> bool {
+fn is_answered(rt: &HostRuntime, asked: Asked, out: &mut Block) -> bool {
     if asked.bad != 0 {
-        help::bad(out, asked.bad, asked.why);
+        help::bad(rt, out, asked.bad, asked.why);
         return true;
     }
     if asked.help {
@@ -154,15 +179,21 @@ fn is_answered(asked: Asked, out: &mut [u8]) -> bool {
 }
 
 // Each file, or standard input where none is named; or help.
-pub fn all(message: &mut [u8], rows: &mut [u32], house: &mut [u8], out: &mut [u8]) {
-    let count = os::arg_count();
-    let asked = arguments::all(count);
-    if is_answered(asked, out) {
+pub fn all(
+    rt: &HostRuntime,
+    message: &mut [u8],
+    rows: &mut [u32],
+    house: &mut [u8],
+    out: &mut Block,
+) {
+    let count = arguments::count(rt);
+    let asked = arguments::all(rt, count);
+    if is_answered(rt, asked, out) {
         return;
     }
     if asked.files == 0 {
-        input(asked, message, rows, house, out);
+        input(rt, asked, message, rows, house, out);
         return;
     }
-    each(count, asked, message, rows, house, out);
+    each(rt, count, asked, message, rows, house, out);
 }

@@ -5,10 +5,13 @@ mod buffers;
 mod files;
 mod messages;
 
-fn main() {
+use wording::block;
+
+fn main(rt: HostRuntime) {
     let mut message = buffers::message();
     let mut rows = buffers::rows();
     let mut house = buffers::house();
-    let mut out = buffers::block();
-    files::all(&mut message, &mut rows, &mut house, &mut out);
+    let mut room = buffers::block();
+    let mut out = block::empty(&mut room, &rt);
+    files::all(&rt, &mut message, &mut rows, &mut house, &mut out);
 }

@@ -3,20 +3,28 @@ use crate::buffers::ROWS;
 use describe::verdict;
 use describe::verdict::Refusal;
 use format::answers::Answer;
-use libc::STDOUT_FILENO;
 use numbers::least;
 use options::arguments::{Asked, read_by};
 use options::help::errors;
 use reader::message::{read_front, rows_needed};
 use rewriter::message::rewrite;
 use show::quoted::plain;
+use std::rt::Env;
 use views::accepted;
+use wording::block::{Block, direct};
 
 // A message, as it is asked for.
-pub fn shown(message: &[u8], rows: &mut [u32], asked: Asked, out: &mut [u8], at: usize) -> usize {
+pub fn shown(
+    rt: &impl Env,
+    message: &[u8],
+    rows: &mut [u32],
+    asked: Asked,
+    out: &mut Block,
+    at: usize,
+) -> usize {
     let sized = verdict::size(message, out, at);
     match read_front(read_by(asked), message, rows) {
-        Answer::Done(needed) => accepted::shown(message, rows, needed, asked, out, sized),
+        Answer::Done(needed) => accepted::shown(rt, message, rows, needed, asked, out, sized),
         Answer::Refused(number, place) => {
             let r = verdict::of(asked, number, place);
             verdict::shown(message, r, asked.hex, out, sized)
@@ -25,15 +33,13 @@ pub fn shown(message: &[u8], rows: &mut [u32], asked: Asked, out: &mut [u8], at:
 }
 
 // Writes a message in house form; says where that fails.
-fn write_house(house: &[u8], written: usize) {
+fn write_house(house: &[u8], written: usize, out: &mut Block) {
     let n = least(written, house.len());
-    if !io::write_all(STDOUT_FILENO, &house[..n]) {
-        os::fail(b"standard output");
-    }
+    direct(out, &house[..n]);
 }
 
 // Why a message is not rewritten; for want of rows, what it is with rows enough.
-fn reason(message: &[u8], r: Refusal, out: &mut [u8], at: usize) -> usize {
+fn reason(message: &[u8], r: Refusal, out: &mut Block, at: usize) -> usize {
     let edition = r.edition;
     let told = verdict::refused(message, r, out, at);
     if !verdict::lacks_rows(r) {
@@ -44,7 +50,7 @@ fn reason(message: &[u8], r: Refusal, out: &mut [u8], at: usize) -> usize {
 }
 
 // Says on standard error, under the message's name, why it is not rewritten.
-fn not_rewritten(name: &[u8], message: &[u8], r: Refusal, out: &mut [u8]) {
+fn not_rewritten(name: &[u8], message: &[u8], r: Refusal, out: &mut Block) {
     let named = plain(out, 0, name);
     let sized = verdict::size(message, out, named);
     let end = reason(message, r, out, sized);
@@ -58,10 +64,10 @@ pub fn rewritten(
     rows: &mut [u32],
     house: &mut [u8],
     asked: Asked,
-    out: &mut [u8],
+    out: &mut Block,
 ) {
     match rewrite(read_by(asked), message, rows, house) {
-        Answer::Done(written) => write_house(house, written),
+        Answer::Done(written) => write_house(house, written, out),
         Answer::Refused(number, place) => {
             not_rewritten(name, message, verdict::of(asked, number, place), out);
         }

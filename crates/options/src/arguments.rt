@@ -1,7 +1,11 @@
 // What the command line asks for.
+ghost use Rattle.std.specs.Prelude.{◌≤◌};
+
 use crate::{lists, words};
 use format::answers::Edition;
 use numbers::{less, sum};
+use std::env::FillError;
+use std::rt::Env;
 
 // What is wrong with an argument: nothing.
 pub const FINE: usize = 0;
@@ -92,25 +96,47 @@ pub fn none() -> Asked {
     }
 }
 
+// How many arguments the program was started with, its own name among them.
+pub fn count(rt: &impl Env) -> usize {
+    for i in 0..usize::MAX {
+        if let Err(FillError::NotPresent) = rt.arg(i, &mut []) {
+            return i;
+        }
+    }
+    usize::MAX
+}
+
+// Puts argument i at the start of its room; answers its length, 0 where it is not there or too long.
+pub fn word(rt: &impl Env, i: usize, room: &mut [u8; 4096]) -> usize
+    ensures { result ≤ 4096 }
+{
+    match rt.arg(i, room) {
+        Ok(n) => n,
+        Err(_) => 0,
+    }
+}
+
 // What argument i asks for.
-fn option(i: usize) -> usize {
-    let mut text = io::buffer();
-    let n = os::arg(i, &mut text);
+fn option(rt: &impl Env, i: usize) -> usize {
+    let mut text = [0u8; 4096];
+    let n = word(rt, i, &mut text);
     words::of(&text[..n])
 }
 
 // Whether argument i is too long for the program's room.
-fn is_long(i: usize) -> bool {
-    let mut text = io::buffer();
-    os::arg(i, &mut text);
-    os::errno() == libc::ENAMETOOLONG
+fn is_long(rt: &impl Env, i: usize) -> bool {
+    let mut text = [0u8; 4096];
+    match rt.arg(i, &mut text) {
+        Err(FillError::TooLong) => true,
+        _ => false,
+    }
 }
 
 // The first of so many arguments that is too long; 0 where none is.
-fn first_long(count: usize) -> usize {
+fn first_long(rt: &impl Env, count: usize) -> usize {
     let mut i: usize = 1;
     while i < count {
-        if is_long(i) {
+        if is_long(rt, i) {
             return i;
         }
         i += 1;
@@ -150,12 +176,12 @@ fn list_fault(word: &[u8], most: usize) -> usize {
 }
 
 // What is wrong with argument i of so many, which must be such a list.
-fn list_at(i: usize, count: usize, most: usize) -> usize {
+fn list_at(rt: &impl Env, i: usize, count: usize, most: usize) -> usize {
     if count <= i {
         return NO_WORD;
     }
-    let mut text = io::buffer();
-    let n = os::arg(i, &mut text);
+    let mut text = [0u8; 4096];
+    let n = word(rt, i, &mut text);
     list_fault(&text[..n], most)
 }
 
@@ -169,7 +195,7 @@ fn judged(mut asked: Asked, i: usize, why: usize) -> Asked {
 }
 
 // An address, at argument i of so many: two lists must follow.
-fn address(mut asked: Asked, i: usize, count: usize) -> Asked {
+fn address(rt: &impl Env, mut asked: Asked, i: usize, count: usize) -> Asked {
     asked.skip = 2;
     if asked.address != 0 {
         return judged(asked, i, TWICE);
@@ -177,8 +203,8 @@ fn address(mut asked: Asked, i: usize, count: usize) -> Asked {
     let rows = sum(i, 1);
     let indexes = sum(i, 2);
     asked.address = rows;
-    let first = judged(asked, rows, list_at(rows, count, ROWS));
-    judged(first, indexes, list_at(indexes, count, INDEXES))
+    let first = judged(asked, rows, list_at(rt, rows, count, ROWS));
+    judged(first, indexes, list_at(rt, indexes, count, INDEXES))
 }
 
 // A path of names, at argument i of so many: a word must follow.
@@ -195,9 +221,9 @@ fn name(mut asked: Asked, i: usize, count: usize) -> Asked {
 }
 
 // The edition that argument i names.
-fn edition_at(i: usize) -> usize {
-    let mut text = io::buffer();
-    let n = os::arg(i, &mut text);
+fn edition_at(rt: &impl Env, i: usize) -> usize {
+    let mut text = [0u8; 4096];
+    let n = word(rt, i, &mut text);
     words::edition(&text[..n])
 }
 
@@ -213,13 +239,13 @@ fn edition_fault(i: usize, count: usize, named: usize) -> usize {
 }
 
 // An edition, at argument i of so many: its name must follow.
-fn edition(mut asked: Asked, i: usize, count: usize) -> Asked {
+fn edition(rt: &impl Env, mut asked: Asked, i: usize, count: usize) -> Asked {
     asked.skip = 1;
     if asked.edition != 0 {
         return judged(asked, i, TWICE);
     }
     let place = sum(i, 1);
-    let named = edition_at(place);
+    let named = edition_at(rt, place);
     asked.edition = place;
     asked.old = named == words::OLD;
     judged(asked, place, edition_fault(place, count, named))
@@ -263,12 +289,12 @@ fn end(mut asked: Asked) -> Asked {
 }
 
 // What is asked for with the option or file at argument i of so many.
-fn with_word(asked: Asked, i: usize, count: usize) -> Asked {
-    let w = option(i);
+fn with_word(rt: &impl Env, asked: Asked, i: usize, count: usize) -> Asked {
+    let w = option(rt, i);
     match w {
-        words::AT => address(asked, i, count),
+        words::AT => address(rt, asked, i, count),
         words::NAME => name(asked, i, count),
-        words::EDITION => edition(asked, i, count),
+        words::EDITION => edition(rt, asked, i, count),
         words::END => end(asked),
         words::FILE => file(asked),
         words::UNKNOWN => judged(asked, i, UNKNOWN),
@@ -277,7 +303,7 @@ fn with_word(asked: Asked, i: usize, count: usize) -> Asked {
 }
 
 // What is asked for with argument i of so many.
-pub fn with(mut asked: Asked, i: usize, count: usize) -> Asked {
+pub fn with(rt: &impl Env, mut asked: Asked, i: usize, count: usize) -> Asked {
     let skip = asked.skip;
     if 0 < skip {
         asked.skip = skip - 1;
@@ -286,7 +312,7 @@ pub fn with(mut asked: Asked, i: usize, count: usize) -> Asked {
     if asked.ended {
         return file(asked);
     }
-    with_word(asked, i, count)
+    with_word(rt, asked, i, count)
 }
 
 // Whether a view is asked for.
@@ -306,11 +332,11 @@ fn combined(asked: Asked) -> Asked {
 }
 
 // What all arguments ask for.
-pub fn all(count: usize) -> Asked {
-    let mut asked = judged(none(), first_long(count), LONG);
+pub fn all(rt: &impl Env, count: usize) -> Asked {
+    let mut asked = judged(none(), first_long(rt, count), LONG);
     let mut i: usize = 1;
     while i < count {
-        asked = with(asked, i, count);
+        asked = with(rt, asked, i, count);
         i += 1;
     }
     combined(asked)

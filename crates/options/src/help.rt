@@ -1,13 +1,12 @@
 // What is said about the program itself.
 use crate::arguments;
-use libc::STDERR_FILENO;
-use numbers::least;
 use show::quoted::plain;
-use wording::block::{line, text};
+use std::rt::Env;
+use wording::block::{Block, complain, line, text};
 use wording::tables;
 
 // How to call the program.
-fn usage(out: &mut [u8], at: usize) -> usize {
+fn usage(out: &mut Block, at: usize) -> usize {
     text(
         out,
         at,
@@ -20,7 +19,7 @@ fn usage(out: &mut [u8], at: usize) -> usize {
 }
 
 // All that there is to say.
-pub fn all(out: &mut [u8], at: usize) -> usize {
+pub fn all(out: &mut Block, at: usize) -> usize {
     let first = usage(out, at);
     text(
         out,
@@ -61,7 +60,7 @@ const ADDRESS: usize = 13;
 const EDITION: usize = 14;
 
 // What is wrong with an argument, by its number; or how an address or an edition is written.
-fn wrong(out: &mut [u8], at: usize, line: usize) -> usize {
+fn wrong(out: &mut Block, at: usize, line: usize) -> usize {
     tables::line(
         out,
         at,
@@ -109,17 +108,17 @@ fn has_argument(why: usize) -> bool {
 }
 
 // Argument i, if it is said.
-fn argument(out: &mut [u8], at: usize, i: usize, why: usize) -> usize {
+fn argument(rt: &impl Env, out: &mut Block, at: usize, i: usize, why: usize) -> usize {
     if !has_argument(why) {
         return at;
     }
-    let mut word = io::buffer();
-    let n = os::arg(i, &mut word);
+    let mut word = [0u8; 4096];
+    let n = arguments::word(rt, i, &mut word);
     plain(out, at, &word[..n])
 }
 
 // How to call the program, where an option is not known.
-fn if_unknown(out: &mut [u8], at: usize, why: usize) -> usize {
+fn if_unknown(out: &mut Block, at: usize, why: usize) -> usize {
     if why == arguments::UNKNOWN {
         return usage(out, at);
     }
@@ -127,18 +126,17 @@ fn if_unknown(out: &mut [u8], at: usize, why: usize) -> usize {
 }
 
 // Argument i is bad.
-pub fn bad(out: &mut [u8], i: usize, why: usize) {
+pub fn bad(rt: &impl Env, out: &mut Block, i: usize, why: usize) {
     let named = text(out, 0, b"inspect: ");
     let begun = wrong(out, named, before(why));
     let said = wrong(out, begun, why);
-    let told = argument(out, said, i, why);
+    let told = argument(rt, out, said, i, why);
     let ended = line(out, told);
     let end = if_unknown(out, ended, why);
     errors(out, end);
 }
 
 // Writes what stands before a place to standard error.
-pub fn errors(out: &[u8], end: usize) {
-    let n = least(end, out.len());
-    io::write_all(STDERR_FILENO, &out[..n]);
+pub fn errors(out: &Block, end: usize) {
+    complain(out, end);
 }

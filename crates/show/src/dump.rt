@@ -1,6 +1,6 @@
 // Bytes in hex: lines of sixteen, and a mark under some of them.
 use numbers::{byte, least, less, sum};
-use wording::block::{line, repeated, spaces};
+use wording::block::{Block, line, repeated, spaces};
 use wording::digits::{hex_byte, right};
 use wording::phrases::{put, with};
 use wording::{block, tables};
@@ -33,7 +33,7 @@ struct Part {
 }
 
 // A colour from here on, if asked for.
-pub fn color(out: &mut [u8], at: usize, color: usize, paint: bool) -> usize {
+pub fn color(out: &mut Block, at: usize, color: usize, paint: bool) -> usize {
     if paint {
         return tables::line(out, at, b"\x1b[0m\n\x1b[31m\n\x1b[32m", color);
     }
@@ -46,7 +46,7 @@ fn columns(bytes: usize) -> usize {
 }
 
 // The bytes from a place on, before another, with a space before each.
-pub fn cells(out: &mut [u8], at: usize, message: &[u8], from: usize, end: usize) -> usize {
+pub fn cells(out: &mut Block, at: usize, message: &[u8], from: usize, end: usize) -> usize {
     let mut next = at;
     let mut i = from;
     while i < end {
@@ -66,7 +66,7 @@ fn character(b: u8) -> u8 {
 }
 
 // The bytes from a place on, before another, as characters.
-fn characters(out: &mut [u8], at: usize, message: &[u8], from: usize, end: usize) -> usize {
+fn characters(out: &mut Block, at: usize, message: &[u8], from: usize, end: usize) -> usize {
     let mut next = at;
     let mut i = from;
     while i < end {
@@ -82,21 +82,21 @@ fn line_end(from: usize, end: usize) -> usize {
 }
 
 // The place of a line, and its bytes.
-fn row(out: &mut [u8], at: usize, message: &[u8], from: usize, end: usize) -> usize {
+fn row(out: &mut Block, at: usize, message: &[u8], from: usize, end: usize) -> usize {
     let place = right(out, at, from, PLACE);
     let gap = block::byte(out, place, b' ');
     cells(out, gap, message, from, line_end(from, end))
 }
 
 // The same, and spaces up to the column after them.
-pub fn head(out: &mut [u8], at: usize, message: &[u8], from: usize, end: usize) -> usize {
+pub fn head(out: &mut Block, at: usize, message: &[u8], from: usize, end: usize) -> usize {
     let shown = row(out, at, message, from, end);
     let wide = columns(less(line_end(from, end), from));
     spaces(out, shown, sum(less(columns(WIDE), wide), 2))
 }
 
 // One line, with the characters.
-fn full_line(out: &mut [u8], at: usize, message: &[u8], from: usize) -> usize {
+fn full_line(out: &mut Block, at: usize, message: &[u8], from: usize) -> usize {
     let end = message.len();
     if end <= from {
         let place = right(out, at, from, PLACE);
@@ -108,7 +108,7 @@ fn full_line(out: &mut [u8], at: usize, message: &[u8], from: usize) -> usize {
 }
 
 // The lines that follow the first of a part, with no characters.
-pub fn rest(out: &mut [u8], at: usize, message: &[u8], from: usize, end: usize) -> usize {
+pub fn rest(out: &mut Block, at: usize, message: &[u8], from: usize, end: usize) -> usize {
     let mut next = at;
     let mut i = sum(from, WIDE);
     while i < end {
@@ -124,7 +124,7 @@ pub fn rest(out: &mut [u8], at: usize, message: &[u8], from: usize, end: usize) 
 }
 
 // The lines with characters from a place on, before another.
-pub fn lines(out: &mut [u8], at: usize, message: &[u8], from: usize, end: usize) -> usize {
+pub fn lines(out: &mut Block, at: usize, message: &[u8], from: usize, end: usize) -> usize {
     let mut next = at;
     let mut i = from;
     while i < end {
@@ -139,7 +139,7 @@ pub fn lines(out: &mut [u8], at: usize, message: &[u8], from: usize, end: usize)
 }
 
 // Marks under those bytes of a line that belong to a part.
-fn carets(out: &mut [u8], at: usize, start: usize, p: Part) -> usize {
+fn carets(out: &mut Block, at: usize, start: usize, p: Part) -> usize {
     let column = less(p.first, start);
     let stop = least(less(p.end, start), WIDE);
     let gap = spaces(out, at, sum(BEFORE, columns(column)));
@@ -150,7 +150,7 @@ fn carets(out: &mut [u8], at: usize, start: usize, p: Part) -> usize {
 }
 
 // The lines from one on, before a place, with marks under a part.
-fn marked(out: &mut [u8], at: usize, message: &[u8], start: usize, stop: usize, p: Part) -> usize {
+fn marked(out: &mut Block, at: usize, message: &[u8], start: usize, stop: usize, p: Part) -> usize {
     let mut next = at;
     let mut i = start;
     while i < stop {
@@ -166,7 +166,7 @@ fn marked(out: &mut [u8], at: usize, message: &[u8], start: usize, stop: usize, 
 }
 
 // What follows the marked lines of a part: the line after it, or how many more bytes it has.
-fn following(out: &mut [u8], at: usize, message: &[u8], stop: usize, end: usize) -> usize {
+fn following(out: &mut Block, at: usize, message: &[u8], stop: usize, end: usize) -> usize {
     if stop < end {
         let left = with(0, less(end, stop), 0, 0);
         return put(out, at, b"          and # more byte$~", left);
@@ -185,7 +185,7 @@ fn following(out: &mut [u8], at: usize, message: &[u8], stop: usize, end: usize)
 
 // The bytes around a part: its lines with marks under it, the line before and the line after. Of a longer part the first lines.
 pub fn around(
-    out: &mut [u8],
+    out: &mut Block,
     at: usize,
     message: &[u8],
     first: usize,

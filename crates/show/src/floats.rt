@@ -1,7 +1,7 @@
 // Floats, exactly: in decimal where that takes at most 60 digits after the point and 64 bits before it, else as a whole number
 // times a power of two.
 use numbers::{less, sum};
-use wording::block::{byte, repeated};
+use wording::block::{Block, byte, repeated};
 use wording::digits::{decimal, hex};
 use wording::phrases::{put, with};
 use wording::tables::line;
@@ -85,7 +85,7 @@ fn tenfold(n: u64) -> u64 {
 }
 
 // The decimal digits of a part of one, which is a number of such units; they end, since the unit is a power of two up to the 60th.
-fn digits(out: &mut [u8], at: usize, part: u64, unit: u64) -> usize {
+fn digits(out: &mut Block, at: usize, part: u64, unit: u64) -> usize {
     let mut place = at;
     let mut rest = part;
     let mut left: usize = 60;
@@ -99,14 +99,14 @@ fn digits(out: &mut [u8], at: usize, part: u64, unit: u64) -> usize {
 }
 
 // A number with digits after the point.
-fn pointed(out: &mut [u8], at: usize, whole: u64, unit: u64) -> usize {
+fn pointed(out: &mut Block, at: usize, whole: u64, unit: u64) -> usize {
     let first = decimal(out, at, quotient(whole, unit));
     let point = byte(out, first, b'.');
     digits(out, point, remainder(whole, unit), unit)
 }
 
 // A whole number times a power of two, by its phrase and the power.
-fn scaled(out: &mut [u8], at: usize, whole: u64, line: usize, power: usize) -> usize {
+fn scaled(out: &mut Block, at: usize, whole: u64, line: usize, power: usize) -> usize {
     put(
         out,
         at,
@@ -116,7 +116,7 @@ fn scaled(out: &mut [u8], at: usize, whole: u64, line: usize, power: usize) -> u
 }
 
 // A float that is a whole number: in decimal where it has at most 64 bits.
-fn large(out: &mut [u8], at: usize, from: Binary) -> usize {
+fn large(out: &mut Block, at: usize, from: Binary) -> usize {
     let b = doubled(from);
     if b.scale == WHOLE {
         return decimal(out, at, b.whole);
@@ -125,7 +125,7 @@ fn large(out: &mut [u8], at: usize, from: Binary) -> usize {
 }
 
 // A float with digits after the point, or with a negative power of two.
-fn small(out: &mut [u8], at: usize, b: Binary) -> usize {
+fn small(out: &mut Block, at: usize, b: Binary) -> usize {
     let places = less(WHOLE, b.scale);
     if places <= 60 {
         return pointed(out, at, b.whole, power(places));
@@ -134,7 +134,7 @@ fn small(out: &mut [u8], at: usize, b: Binary) -> usize {
 }
 
 // A float in decimal, or with a power of two.
-fn exact(out: &mut [u8], at: usize, from: Binary) -> usize {
+fn exact(out: &mut Block, at: usize, from: Binary) -> usize {
     let b = reduced(from);
     if b.whole == 0 {
         return byte(out, at, b'0');
@@ -207,7 +207,7 @@ fn word(fraction: u64) -> usize {
 }
 
 // A float with no sign.
-fn magnitude(out: &mut [u8], at: usize, p: Parts) -> usize {
+fn magnitude(out: &mut Block, at: usize, p: Parts) -> usize {
     if p.exponent == p.largest {
         return line(out, at, b"infinity\nNaN", word(p.fraction));
     }
@@ -223,7 +223,7 @@ fn width(precision: usize) -> usize {
 }
 
 // A float by its bits, and these in hex.
-pub fn float(out: &mut [u8], at: usize, n: u64, precision: usize) -> usize {
+pub fn float(out: &mut Block, at: usize, n: u64, precision: usize) -> usize {
     let p = split(n, precision);
     let signed = repeated(out, at, b'-', p.negative);
     let shown = magnitude(out, signed, p);

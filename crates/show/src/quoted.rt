@@ -1,6 +1,6 @@
 // Texts and chars in quotes.
 use numbers::{least, sum};
-use wording::block::{byte, text};
+use wording::block::{Block, byte, text};
 use wording::digits::hex_byte;
 use wording::phrases::{put, with};
 
@@ -21,7 +21,7 @@ fn letter(b: u8) -> u8 {
 }
 
 // A byte that stands for itself, or for which a letter stands, or hex digits.
-fn ascii(out: &mut [u8], at: usize, b: u8) -> usize {
+fn ascii(out: &mut Block, at: usize, b: u8) -> usize {
     let l = letter(b);
     if l == 0 {
         return byte(out, at, b);
@@ -76,7 +76,7 @@ fn length(message: &[u8], i: usize) -> usize {
 }
 
 // The bytes from a place on, before another, as they are.
-fn copied(out: &mut [u8], at: usize, message: &[u8], from: usize, end: usize) -> usize {
+fn copied(out: &mut Block, at: usize, message: &[u8], from: usize, end: usize) -> usize {
     let mut place = at;
     let mut i = from;
     while i < end {
@@ -87,7 +87,7 @@ fn copied(out: &mut [u8], at: usize, message: &[u8], from: usize, end: usize) ->
 }
 
 // The character at a place, before another.
-fn character(out: &mut [u8], at: usize, message: &[u8], from: usize, end: usize) -> usize {
+fn character(out: &mut Block, at: usize, message: &[u8], from: usize, end: usize) -> usize {
     if end <= sum(from, 1) {
         return ascii(out, at, numbers::byte(message, from));
     }
@@ -95,7 +95,7 @@ fn character(out: &mut [u8], at: usize, message: &[u8], from: usize, end: usize)
 }
 
 // The characters from a place on, before another.
-fn characters(out: &mut [u8], at: usize, message: &[u8], from: usize, end: usize) -> usize {
+fn characters(out: &mut Block, at: usize, message: &[u8], from: usize, end: usize) -> usize {
     let mut place = at;
     let mut i = from;
     while i < end {
@@ -110,12 +110,12 @@ fn characters(out: &mut [u8], at: usize, message: &[u8], from: usize, end: usize
 }
 
 // A name or a word, with no quotes around it.
-pub fn plain(out: &mut [u8], at: usize, word: &[u8]) -> usize {
+pub fn plain(out: &mut Block, at: usize, word: &[u8]) -> usize {
     characters(out, at, word, 0, word.len())
 }
 
 // A text of the message, by its first byte and its length.
-pub fn quoted(out: &mut [u8], at: usize, message: &[u8], first: usize, width: usize) -> usize {
+pub fn quoted(out: &mut Block, at: usize, message: &[u8], first: usize, width: usize) -> usize {
     let opened = byte(out, at, b'"');
     let end = sum(first, least(width, SHOWN));
     let shown = characters(out, opened, message, first, end);
@@ -127,7 +127,7 @@ pub fn quoted(out: &mut [u8], at: usize, message: &[u8], first: usize, width: us
 }
 
 // A char.
-pub fn char(out: &mut [u8], at: usize, b: u8) -> usize {
+pub fn char(out: &mut Block, at: usize, b: u8) -> usize {
     let opened = byte(out, at, b'\'');
     if b == b'\'' {
         return text(out, opened, b"\\''");

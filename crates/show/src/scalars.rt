@@ -7,7 +7,7 @@ use crate::floats::float;
 use crate::quoted::char;
 use format::answers::{Value, Valued};
 use lines::signed::magnitude;
-use wording::block::{byte, repeated, text};
+use wording::block::{Block, byte, repeated, text};
 use wording::digits::{decimal, hex_byte};
 use wording::names::refusal;
 use wording::tables;
@@ -107,13 +107,13 @@ fn answered(answer: Valued) -> Scalar
 }
 
 // A byte, in hex.
-fn raw(out: &mut [u8], at: usize, b: u8) -> usize {
+fn raw(out: &mut Block, at: usize, b: u8) -> usize {
     let next = text(out, at, b"0x");
     hex_byte(out, next, b)
 }
 
 // A refusal's number and its meaning.
-fn meant(out: &mut [u8], at: usize, number: u64) -> usize {
+fn meant(out: &mut Block, at: usize, number: u64) -> usize {
     let word = text(out, at, b"refused ");
     let shown = decimal(out, word, number);
     let comma = text(out, shown, b", ");
@@ -121,18 +121,18 @@ fn meant(out: &mut [u8], at: usize, number: u64) -> usize {
 }
 
 // A number after so many signs.
-fn number(out: &mut [u8], at: usize, signs: usize, n: u64) -> usize {
+fn number(out: &mut Block, at: usize, signs: usize, n: u64) -> usize {
     let signed = repeated(out, at, b'-', signs);
     decimal(out, signed, n)
 }
 
 // A word.
-fn word(out: &mut [u8], at: usize, case: u8) -> usize {
+fn word(out: &mut Block, at: usize, case: u8) -> usize {
     tables::line(out, at, b"null\ntrue\nfalse", case as usize)
 }
 
 // A char, a byte or a refusal.
-fn other(out: &mut [u8], at: usize, s: Scalar) -> usize {
+fn other(out: &mut Block, at: usize, s: Scalar) -> usize {
     let bits = s.bits;
     if s.case == CHAR {
         return char(out, at, (bits % 256) as u8);
@@ -144,7 +144,7 @@ fn other(out: &mut [u8], at: usize, s: Scalar) -> usize {
 }
 
 // A scalar; floats with their bits.
-fn shown(out: &mut [u8], at: usize, s: Scalar) -> usize {
+fn shown(out: &mut Block, at: usize, s: Scalar) -> usize {
     let case = s.case;
     if case <= FALSE {
         return word(out, at, case);
@@ -159,12 +159,12 @@ fn shown(out: &mut [u8], at: usize, s: Scalar) -> usize {
 }
 
 // A refusal's number and its meaning.
-pub fn refused(out: &mut [u8], at: usize, number: u32) -> usize {
+pub fn refused(out: &mut Block, at: usize, number: u32) -> usize {
     meant(out, at, number as u64)
 }
 
 // The value that a call answers, or its refusal.
-pub fn valued(out: &mut [u8], at: usize, answer: Valued) -> usize
+pub fn valued(out: &mut Block, at: usize, answer: Valued) -> usize
     requires { NansApart answer }
 {
     shown(out, at, answered(answer))

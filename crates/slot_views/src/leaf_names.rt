@@ -5,11 +5,11 @@ use describe::words::say;
 use navigate::way;
 use navigate::way::Way;
 use numbers::{least, less};
-use wording::block::repeated;
+use wording::block::{Block, repeated};
 use wording::phrases::with;
 
 // The part of the name that the member at a depth adds: its key's name, or its place in the fixed array that holds it.
-fn part(message: &[u8], rows: &[u32], w: Way, depth: usize, out: &mut [u8], at: usize) -> usize {
+fn part(message: &[u8], rows: &[u32], w: Way, depth: usize, out: &mut Block, at: usize) -> usize {
     let member = way::member(w, depth);
     if !way::has_key(rows, member) {
         return say(out, at, with(words::PLACE, way::place(w, depth), 0, 0));
@@ -19,7 +19,7 @@ fn part(message: &[u8], rows: &[u32], w: Way, depth: usize, out: &mut [u8], at: 
 }
 
 // The name of the leaf that a way leads to.
-pub fn of_leaf(message: &[u8], rows: &[u32], w: Way, out: &mut [u8], at: usize) -> usize {
+pub fn of_leaf(message: &[u8], rows: &[u32], w: Way, out: &mut Block, at: usize) -> usize {
     let mut next = at;
     let mut depth: usize = 0;
     while depth < w.depth {

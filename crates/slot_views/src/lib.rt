@@ -4,4 +4,4 @@
 pub mod leaf_names;
 pub mod one_slot;
 pub mod reasons;
-pub mod slots;
+pub mod slot_lists;

@@ -9,7 +9,7 @@ use navigate::narrowed::{LEAF, alone};
 use navigate::way;
 use navigate::way::Way;
 use show::scalars::valued;
-use wording::block::byte;
+use wording::block::{Block, byte};
 use wording::digits::number;
 use wording::phrases::with;
 
@@ -49,7 +49,7 @@ pub fn index(indexes: Indexes, j: usize) -> usize {
 }
 
 // The indexes, with a comma between two.
-fn list(indexes: Indexes, out: &mut [u8], at: usize) -> usize {
+fn list(indexes: Indexes, out: &mut Block, at: usize) -> usize {
     let mut next = number(out, at, index(indexes, 0));
     let mut j: usize = 1;
     while j < indexes.count {
@@ -68,13 +68,13 @@ fn line(leaf: usize) -> usize {
 }
 
 // An address, as the command line takes it; no leaf is row 0.
-pub fn address(row: usize, leaf: usize, indexes: Indexes, out: &mut [u8], at: usize) -> usize {
+pub fn address(row: usize, leaf: usize, indexes: Indexes, out: &mut Block, at: usize) -> usize {
     let begun = say(out, at, with(line(leaf), row, leaf, 0));
     list(indexes, out, begun)
 }
 
 // The address of a slot.
-pub fn address_of(s: Slot, out: &mut [u8], at: usize) -> usize {
+pub fn address_of(s: Slot, out: &mut Block, at: usize) -> usize {
     address(s.row, way::last(s.way), s.indexes, out, at)
 }
 
@@ -91,7 +91,7 @@ pub fn located(rows: &[u32], size: u32, s: Slot) -> Located {
 }
 
 // The mark and the value of what is in a slot, by the rows of its leaf alone.
-fn value(message: &[u8], few: &[u32; 130], indexes: Indexes, out: &mut [u8], at: usize) -> usize {
+fn value(message: &[u8], few: &[u32; 130], indexes: Indexes, out: &mut Block, at: usize) -> usize {
     let mark = shape::mark(few, 0, LEAF);
     let list = indexes.list;
     let equal = say(out, at, with(words::MARK, mark, 0, 0));
@@ -107,7 +107,7 @@ fn value(message: &[u8], few: &[u32; 130], indexes: Indexes, out: &mut [u8], at:
 }
 
 // The name, after which a space stands; an element of a packed array has none.
-fn name(message: &[u8], rows: &[u32], w: Way, out: &mut [u8], at: usize) -> usize {
+fn name(message: &[u8], rows: &[u32], w: Way, out: &mut Block, at: usize) -> usize {
     if w.depth == 0 {
         return at;
     }
@@ -116,7 +116,7 @@ fn name(message: &[u8], rows: &[u32], w: Way, out: &mut [u8], at: usize) -> usiz
 }
 
 // The name, the mark and the value of what is in a slot.
-pub fn content(message: &[u8], rows: &[u32], s: Slot, out: &mut [u8], at: usize) -> usize {
+pub fn content(message: &[u8], rows: &[u32], s: Slot, out: &mut Block, at: usize) -> usize {
     let few = alone(rows, s.row, s.way);
     let named = name(message, rows, s.way, out, at);
     value(message, &few, s.indexes, out, named)

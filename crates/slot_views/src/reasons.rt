@@ -5,6 +5,7 @@ use describe::words::say;
 use grid::{held, shape};
 use rows::load;
 use show::scalars;
+use wording::block::Block;
 use wording::phrases::{Phrase, plain, with};
 
 // The refusal of indexes that are not there.
@@ -83,7 +84,7 @@ pub fn refused(
     leaf: usize,
     indexes: Indexes,
     refusal: u32,
-    out: &mut [u8],
+    out: &mut Block,
     at: usize,
 ) -> usize {
     let told = scalars::refused(out, at, refusal);

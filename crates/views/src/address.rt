@@ -9,7 +9,7 @@ use numbers::{narrow, sum};
 use show::dump;
 use slot_views::one_slot::{Indexes, Slot};
 use slot_views::{one_slot, reasons};
-use wording::block::line;
+use wording::block::{Block, line};
 use wording::phrases::{plain, with};
 
 // An address: the row of a packed array or a table, the row of a leaf, whether the leaf is given, and the indexes; and whether the
@@ -41,7 +41,7 @@ fn found(
     w: Way,
     first: usize,
     width: usize,
-    out: &mut [u8],
+    out: &mut Block,
     at: usize,
 ) -> usize {
     let colon = say(out, at, with(words::STANDS, first, width, 0));
@@ -54,7 +54,7 @@ fn found(
 }
 
 // An address, as it was asked for.
-fn asked(a: Address, out: &mut [u8], at: usize) -> usize {
+fn asked(a: Address, out: &mut Block, at: usize) -> usize {
     let begun = say(out, at, plain(words::SLOT));
     let shown = one_slot::address(a.row, a.leaf, a.indexes, out, begun);
     say(out, shown, plain(words::COLON))
@@ -67,7 +67,7 @@ fn answered(
     a: Address,
     w: Way,
     answer: Located,
-    out: &mut [u8],
+    out: &mut Block,
     at: usize,
 ) -> usize {
     let colon = asked(a, out, at);
@@ -80,7 +80,7 @@ fn answered(
 }
 
 // One address.
-fn one(message: &[u8], rows: &[u32], a: Address, out: &mut [u8], at: usize) -> usize {
+fn one(message: &[u8], rows: &[u32], a: Address, out: &mut Block, at: usize) -> usize {
     let indexes = a.indexes;
     let list = indexes.list;
     let size = narrow(message.len());
@@ -96,7 +96,7 @@ fn named(
     mut a: Address,
     w: Way,
     leaf: usize,
-    out: &mut [u8],
+    out: &mut Block,
     at: usize,
 ) -> usize {
     if !shape::is_leaf(rows, leaf) {
@@ -108,7 +108,7 @@ fn named(
 }
 
 // All slots of one record that is there.
-fn slots(message: &[u8], rows: &[u32], a: Address, out: &mut [u8], at: usize) -> usize {
+fn slots(message: &[u8], rows: &[u32], a: Address, out: &mut Block, at: usize) -> usize {
     let end = shape::schema_end(rows, a.row);
     let mut w = way::none();
     let mut next = at;
@@ -122,7 +122,7 @@ fn slots(message: &[u8], rows: &[u32], a: Address, out: &mut [u8], at: usize) ->
 }
 
 // All slots of one record; one refusal where it isn't there.
-fn record(message: &[u8], rows: &[u32], a: Address, out: &mut [u8], at: usize) -> usize {
+fn record(message: &[u8], rows: &[u32], a: Address, out: &mut Block, at: usize) -> usize {
     if reasons::are_inside(rows, a.row, a.indexes) {
         return slots(message, rows, a, out, at);
     }
@@ -139,7 +139,7 @@ fn missing(rows: &[u32], row: usize) -> usize {
 }
 
 // What an address leads to.
-pub fn shown(message: &[u8], rows: &[u32], a: Address, out: &mut [u8], at: usize) -> usize {
+pub fn shown(message: &[u8], rows: &[u32], a: Address, out: &mut Block, at: usize) -> usize {
     let row = a.row;
     if held::is_missing(rows, row) {
         return say(out, at, with(missing(rows, row), row, 0, 0));

@@ -7,8 +7,8 @@ use navigate::{room, walk};
 use numbers::less;
 use rows::{Row, load};
 use show::dump;
-use slot_views::slots;
-use wording::block::line;
+use slot_views::slot_lists;
+use wording::block::{Block, line};
 use wording::phrases::{Phrase, plain, with};
 
 // The phrase of a run that is not at a row's start: the rest of a header, or a closing mark.
@@ -34,7 +34,7 @@ fn owner(
     row: usize,
     from: usize,
     end: usize,
-    out: &mut [u8],
+    out: &mut Block,
     at: usize,
 ) -> usize {
     let r = load(rows, row);
@@ -48,7 +48,14 @@ fn owner(
 }
 
 // A run of bytes that belong to the innermost open row.
-fn run(message: &[u8], rows: &[u32], used: usize, row: usize, out: &mut [u8], mut w: Walk) -> Walk {
+fn run(
+    message: &[u8],
+    rows: &[u32],
+    used: usize,
+    row: usize,
+    out: &mut Block,
+    mut w: Walk,
+) -> Walk {
     let r = load(rows, row);
     let from = w.byte;
     let end = walk::run_end(message, rows, used, r, w);
@@ -64,9 +71,9 @@ fn run(message: &[u8], rows: &[u32], used: usize, row: usize, out: &mut [u8], mu
 }
 
 // The slots of the innermost open row.
-fn slots_of(message: &[u8], rows: &[u32], row: usize, out: &mut [u8], mut w: Walk) -> Walk {
-    let begun = slots::none(true, w.byte, w.room, w.at);
-    let listed = slots::all(message, rows, row, out, begun);
+fn slots_of(message: &[u8], rows: &[u32], row: usize, out: &mut Block, mut w: Walk) -> Walk {
+    let begun = slot_lists::none(true, w.byte, w.room, w.at);
+    let listed = slot_lists::all(message, rows, row, out, begun);
     w.at = listed.at;
     w.room = listed.room;
     w.byte = walk::payload_end(load(rows, row));
@@ -74,7 +81,7 @@ fn slots_of(message: &[u8], rows: &[u32], row: usize, out: &mut [u8], mut w: Wal
 }
 
 // One run, or the slots of a packed array or a table.
-fn step(message: &[u8], rows: &[u32], used: usize, out: &mut [u8], w: Walk) -> Walk {
+fn step(message: &[u8], rows: &[u32], used: usize, out: &mut Block, w: Walk) -> Walk {
     let here = walk::opened(message, rows, used, w);
     let row = walk::top(here);
     if walk::at_slots(load(rows, row), here.byte) {
@@ -84,13 +91,13 @@ fn step(message: &[u8], rows: &[u32], used: usize, out: &mut [u8], w: Walk) -> W
 }
 
 // The bytes that belong to no row that is held.
-fn unheld(message: &[u8], from: usize, out: &mut [u8], at: usize) -> usize {
+fn unheld(message: &[u8], from: usize, out: &mut Block, at: usize) -> usize {
     let told = say(out, at, with(words::UNHELD, from, 0, 0));
     dump::lines(out, told, message, from, message.len())
 }
 
 // All bytes; those of rows that are not held as they are.
-pub fn all(message: &[u8], rows: &[u32], used: usize, out: &mut [u8], at: usize) -> usize {
+pub fn all(message: &[u8], rows: &[u32], used: usize, out: &mut Block, at: usize) -> usize {
     let begun = say(out, at, plain(words::BYTES_HEAD));
     let mut w = walk::none(room::all(message), begun);
     while w.byte < message.len() {

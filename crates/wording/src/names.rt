@@ -1,4 +1,5 @@
 // The names of kinds, marks and extensions' ids, and the meanings of refusals.
+use crate::block::Block;
 use crate::tables::{line, place};
 
 // A number up to the largest that has a name; 0 for a larger one.
@@ -10,7 +11,7 @@ fn upto(n: usize, largest: usize) -> usize {
 }
 
 // A kind by its number.
-pub fn kind(out: &mut [u8], at: usize, kind: usize) -> usize {
+pub fn kind(out: &mut Block, at: usize, kind: usize) -> usize {
     line(
         out,
         at,
@@ -38,7 +39,7 @@ fn mark_line(mark: usize) -> usize {
 }
 
 // A mark by its byte, with its type.
-pub fn mark(out: &mut [u8], at: usize, mark: usize) -> usize {
+pub fn mark(out: &mut Block, at: usize, mark: usize) -> usize {
     line(
         out,
         at,
@@ -66,7 +67,7 @@ M uint64",
 }
 
 // The name of an extension's id, after a space; nothing where the id is opaque.
-pub fn id(out: &mut [u8], at: usize, id: usize) -> usize {
+pub fn id(out: &mut Block, at: usize, id: usize) -> usize {
     line(
         out,
         at,
@@ -86,7 +87,7 @@ pub fn id(out: &mut [u8], at: usize, id: usize) -> usize {
 }
 
 // What a refusal's number means.
-pub fn refusal(out: &mut [u8], at: usize, number: usize) -> usize {
+pub fn refusal(out: &mut Block, at: usize, number: usize) -> usize {
     line(
         out,
         at,

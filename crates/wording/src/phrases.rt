@@ -1,5 +1,5 @@
 // Phrases: lines of a table of words, in which signs stand for numbers.
-use crate::block::{byte, repeated};
+use crate::block::{Block, byte, repeated};
 use crate::digits::number;
 use crate::names::{kind, mark};
 use crate::tables::start;
@@ -38,7 +38,7 @@ fn plural(n: usize) -> usize {
 }
 
 // What a byte of a line stands for.
-fn sign(out: &mut [u8], at: usize, b: u8, p: Phrase) -> usize {
+fn sign(out: &mut Block, at: usize, b: u8, p: Phrase) -> usize {
     match b {
         b'#' => number(out, at, p.first),
         b'&' => number(out, at, p.second),
@@ -52,7 +52,7 @@ fn sign(out: &mut [u8], at: usize, b: u8, p: Phrase) -> usize {
 }
 
 // A phrase of a table.
-pub fn put(out: &mut [u8], at: usize, table: &[u8], p: Phrase) -> usize {
+pub fn put(out: &mut Block, at: usize, table: &[u8], p: Phrase) -> usize {
     let mut place = at;
     let mut i = start(table, p.line);
     while i < table.len() && table[i] != b'\n' {

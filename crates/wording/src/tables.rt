@@ -1,5 +1,5 @@
 // Tables of words: bytes, with a line feed after each line but the last. A line is named by its number, from 0.
-use crate::block::byte;
+use crate::block::{Block, byte};
 use numbers::{byte as byte_at, less, sum};
 
 // How many lines end with a byte: one with a line feed, and none with any other.
@@ -22,7 +22,7 @@ pub fn start(table: &[u8], line: usize) -> usize {
 }
 
 // A line of a table.
-pub fn line(out: &mut [u8], at: usize, table: &[u8], line: usize) -> usize {
+pub fn line(out: &mut Block, at: usize, table: &[u8], line: usize) -> usize {
     let mut place = at;
     let mut i = start(table, line);
     while i < table.len() && table[i] != b'\n' {

@@ -1,0 +1,7 @@
+-- `shape::leaves`: a loop over the rows. Assumes nothing.
+use borrow.Author.Rules.{rules}
+use Prim.Native.Nat.{◌-◌}
+use Rattle.grid.proofs.shape.leaves.Given as goal
+
+abbrev pub decreases-loop-r : goal.decreases-loop-r
+decreases-loop-r l = l.end - l.r

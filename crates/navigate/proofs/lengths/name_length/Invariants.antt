@@ -1,0 +1,7 @@
+-- `lengths::name_length`: a loop over bytes. Assumes nothing.
+use borrow.Author.Rules.{rules}
+use Prim.Native.Nat.{◌-◌}
+use Rattle.navigate.proofs.lengths.name_length.Given as goal
+
+abbrev pub decreases-loop-i : goal.decreases-loop-i
+decreases-loop-i l = l.end - l.i

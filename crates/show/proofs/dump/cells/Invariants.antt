@@ -1,0 +1,6 @@
+-- `dump::cells`: a loop over bytes. Assumes nothing.
+use Rattle.std.proofs.Common.{◌≡◌, ◌-◌, length, rules}
+use Rattle.show.proofs.dump.cells.Given as goal
+
+abbrev pub decreases-loop-i : goal.decreases-loop-i
+decreases-loop-i l = l.end - l.i
