@@ -8,7 +8,7 @@ use native.Mathlib.Nat.{min-eq_left, min-eq_right}
 use lib.ListN.{length}
 use lib.Dec.{leb}
 use borrow.Author.Tests.{eq-eqb, ne_eqb, le-leb, lt-leb, leb-true, leb-false}
-use Rattle.format.specs.Conditions.{if◌then◌else◌}
+use Rattle.format.specs.Conditions.{when◌then◌else◌}
 use Rattle.format.specs.Outcome.{Outcome, fault, done, guard, ◌>>=◌, ◌>>◌}
 use Rattle.format.specs.Refusals.{not_there, rows_dont_fit}
 use Rattle.format.specs.Marks.{width, '['}
@@ -155,14 +155,14 @@ module _ (ws : List ℕ) (size row leaf_row row_of_field n r : ℕ) (k : n ≡ c
   pub by_rows_at : (q : Row) → q ≡ row_at ws (row + 1) → t.mark ≡ '['
       → ((place many : ℕ) → t.payload ≡ capped place → n ≡ capped many → start ≡ capped (place + many * q.extent + o.payload))
       → ((words : List ℕ) (total : ℕ) → start ≡ capped total → s ≡ inside words size o.mark total 0 o.extent) → s ≡ in_record ws size row leaf_row row_of_field r
-  unfolding in_record if◌then◌else◌
+  unfolding in_record when◌then◌else◌
   by_rows_at q l b f g =
       g ws (t.payload + r * q.extent + o.payload) (f t.payload r (small t.payload h) k) ∙ rw (← there, ← leaf, ← l, eq-eqb t.mark '[' b) refl
 
   pub by_columns_at : (f : Row) → f ≡ row_at ws row_of_field → (t.mark ≡ '[' → ⊥) → (column : ℕ) → column ≡ capped (t.payload + capped (t.count * f.payload))
       → ((place many : ℕ) → column ≡ capped place → n ≡ capped many → start ≡ capped (place + many * f.extent + o.payload))
       → ((words : List ℕ) (total : ℕ) → start ≡ capped total → s ≡ inside words size o.mark total f.payload o.extent) → s ≡ in_record ws size row leaf_row row_of_field r
-  unfolding in_record if◌then◌else◌
+  unfolding in_record when◌then◌else◌
   by_columns_at f l b column e v g =
       let q : column ≡ capped (t.payload + t.count * f.payload) = e ∙ omega arith in
       g ws (t.payload + t.count * f.payload + r * f.extent + o.payload) (v (t.payload + t.count * f.payload) r q k)

@@ -1,6 +1,6 @@
 -- What the answers about slots and positions stand for.
 use Rattle.std.specs.Prelude.{ℕ, ◌+◌, ◌*◌, ◌≡◌, true, List, eqb}
-use Rattle.format.specs.Conditions.{if◌then◌else◌}
+use Rattle.format.specs.Conditions.{when◌then◌else◌}
 use Rattle.format.specs.Outcome.{Outcome, fault, done, guard, ◌>>=◌}
 use Rattle.format.specs.Refusals.{not_there}
 use Rattle.format.specs.Marks.{'['}
@@ -24,7 +24,7 @@ in_record ws message_bytes row leaf_row row_of_field r =
     let t = row_at ws row in
     let o = row_at ws leaf_row in
     let f = row_at ws row_of_field in
-    if eqb t.mark '[' then inside ws message_bytes o.mark (t.payload + r * (row_at ws (row + 1)).extent + o.payload) 0 o.extent else
+    when eqb t.mark '[' then inside ws message_bytes o.mark (t.payload + r * (row_at ws (row + 1)).extent + o.payload) 0 o.extent else
     inside ws message_bytes o.mark (t.payload + t.count * f.payload + r * f.extent + o.payload) f.payload o.extent
 
 -- indexes in range of a container's extents, and their number, capped

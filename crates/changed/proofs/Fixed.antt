@@ -7,21 +7,21 @@ use native.Mathlib.Omega.{arith}
 use lib.ListN.{length, get_or, drop, length-take, length-drop}
 use lib.Seq.{get_or-take, get_or-drop, ext_get_or}
 use lib.Dec.{eqb}
-use Rattle.format.specs.Conditions.{if◌then◌else◌}
+use Rattle.format.specs.Conditions.{when◌then◌else◌}
 use Rattle.format.specs.Marks.{'N'}
 use Rattle.format.specs.Bytes.{leading_noops, bytes, skip}
 
 -- as many `N`, if they and the byte after them are the same
 noops_same : (l l' : List ℕ) → length l' ≡ length l → ((i : ℕ) → i ≤ leading_noops l → get_or l' i 0 ≡ get_or l i 0) → leading_noops l' ≡ leading_noops l
-unfolding leading_noops if◌then◌else◌
+unfolding leading_noops when◌then◌else◌
 noops_same [] [] e h = refl
 noops_same [] (b' ∷ l') e h = absurd (omega arith)
 noops_same (b ∷ l) [] e h = absurd (omega arith)
 noops_same (b ∷ l) (b' ∷ l') e h = let z : b' ≡ b = h 0 (omega arith) in rw z (go (eqb b 'N') (noops_same l l' (omega arith)) h)
   where
     go : (t : Bool) → (((i : ℕ) → i ≤ leading_noops l → get_or l' i 0 ≡ get_or l i 0) → leading_noops l' ≡ leading_noops l)
-        → ((i : ℕ) → i ≤ (if t then suc (leading_noops l) else 0) → get_or (b' ∷ l') i 0 ≡ get_or (b ∷ l) i 0)
-        → (if t then suc (leading_noops l') else 0) ≡ (if t then suc (leading_noops l) else 0)
+        → ((i : ℕ) → i ≤ (when t then suc (leading_noops l) else 0) → get_or (b' ∷ l') i 0 ≡ get_or (b ∷ l) i 0)
+        → (when t then suc (leading_noops l') else 0) ≡ (when t then suc (leading_noops l) else 0)
     go true rest h = ap suc (rest λ i k. h (suc i) (omega arith))
     go false rest h = refl
 

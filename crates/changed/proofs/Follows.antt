@@ -8,7 +8,7 @@ use mathlib.Core.Logic.{inl, inr}
 use native.Mathlib.Omega.{arith}
 use lib.ListN.{length, get_or}
 use Rattle.format.specs.Grammars.{Grammar}
-use Rattle.format.specs.Conditions.{if◌then◌else◌}
+use Rattle.format.specs.Conditions.{when◌then◌else◌}
 use Rattle.format.specs.Refusals.{not_allowed}
 use Rattle.format.specs.Outcome.{Outcome, fault, done, Parsed, ◌>>=◌, ◌>>◌, guard}
 use Rattle.format.specs.Marks.{width}
@@ -74,8 +74,8 @@ module _ (m m' : List ℕ) where
     guard_follows false n p h = refused λ _. tt
 
     extended_follows : {A : Type 0} {part : A → Part} {from least : ℕ} {o o' : Outcome A} (b : Bool) (p : ℕ) → Follow A part from least o o'
-        → Follow A part from least (if b then o else fault not_allowed p) (if b then o' else fault not_allowed p)
-    unfolding if◌then◌else◌
+        → Follow A part from least (when b then o else fault not_allowed p) (when b then o' else fault not_allowed p)
+    unfolding when◌then◌else◌
     extended_follows true p h = h
     extended_follows false p h = refused λ _. tt
 

@@ -8,7 +8,7 @@ use native.Mathlib.Nat.{suc-mul}
 use native.Mathlib.Numerals.{sub-one}
 use borrow.Author.Tests.{ne_eqb}
 use lib.Dec.{eqb}
-use Rattle.format.specs.Conditions.{if◌then◌else◌, all}
+use Rattle.format.specs.Conditions.{when◌then◌else◌, all}
 use Rattle.format.specs.Marks.{'C', 'H', 'S', 'T'}
 use Rattle.format.specs.Text.{is_text, shaped}
 use Rattle.format.specs.JsonNumber.{is_number}
@@ -39,12 +39,12 @@ module _ (m : List ℕ) (mark w stride : ℕ) where
   column_stop b n place h k = let x = column_from b n place h k in omega arith
 
   pub column_wrong : (b n place : ℕ) → 0 < n → b ≤ nowhere → place < b → is_content mark (bytes m place w) ≡ false → place ≡ min b (in_column m mark w stride n place)
-  unfolding in_column wrong_at if◌then◌else◌
+  unfolding in_column wrong_at when◌then◌else◌
   column_wrong b zero place z h k e = absurd (omega arith)
   column_wrong b (suc n) place z h k e = rw e (let x = column_from place n (place + stride) (omega arith) (omega arith) in omega arith)
 
   pub column_right : (n place : ℕ) → 0 < n → is_content mark (bytes m place w) ≡ true → in_column m mark w stride (n - 1) (place + stride) ≡ in_column m mark w stride n place
-  unfolding in_column wrong_at if◌then◌else◌
+  unfolding in_column wrong_at when◌then◌else◌
   column_right zero place z e = absurd (omega arith)
   column_right (suc n) place z e = rw e (simp (sub-one) (let x = column_most m mark w stride n (place + stride) in omega arith))
 
@@ -55,7 +55,7 @@ module _ (m : List ℕ) (mark w stride : ℕ) where
 
   -- nothing can be wrong
   column_clear : ((place : ℕ) → is_content mark (bytes m place w) ≡ true) → (n place : ℕ) → in_column m mark w stride n place ≡ nowhere
-  unfolding in_column wrong_at if◌then◌else◌
+  unfolding in_column wrong_at when◌then◌else◌
   column_clear e zero place = refl
   column_clear e (suc n) place = rw (e place, column_clear e n (place + stride)) (omega arith)
 
@@ -64,10 +64,10 @@ module _ (m : List ℕ) (mark w stride : ℕ) where
 
 -- no bytes are right under every mark but `H`
 none_right : (mark : ℕ) → (mark ≡ 'H' → ⊥) → is_content mark [] ≡ true
-unfolding is_content if◌then◌else◌ all is_text shaped
+unfolding is_content when◌then◌else◌ all is_text shaped
 none_right mark h = go (eqb mark 'S') (eqb mark 'H') (eqb mark 'C') (eqb mark 'T') (ne_eqb mark 'H' h)
   where
-    go : (s h c t : Bool) → h ≡ false → (if s then true else if h then is_number [] else if c then true else if t then true else true) ≡ true
+    go : (s h c t : Bool) → h ≡ false → (when s then true else when h then is_number [] else when c then true else when t then true else true) ≡ true
     go true h c t e = refl
     go false true c t e = absurd (false≢true (sym e))
     go false false true t e = refl
@@ -81,5 +81,5 @@ column_empty m mark w stride b n place h k e =
 
 -- under other marks any bytes are right
 pub unchecked : (mark : ℕ) → (mark ≡ 'S' → ⊥) → (mark ≡ 'C' → ⊥) → (mark ≡ 'T' → ⊥) → (mark ≡ 'H' → ⊥) → (bs : List ℕ) → is_content mark bs ≡ true
-unfolding is_content if◌then◌else◌
+unfolding is_content when◌then◌else◌
 unchecked mark s c t h bs = simp (ne_eqb _ _ s, ne_eqb _ _ c, ne_eqb _ _ t, ne_eqb _ _ h)

@@ -6,7 +6,7 @@ use mathlib.Core.List.{List, [], ◌∷◌, ◌++◌}
 use native.Mathlib.Omega.{arith}
 use native.Mathlib.Nat.{mul-add}
 use lib.ListN.{length}
-use Rattle.format.specs.Conditions.{if◌then◌else◌}
+use Rattle.format.specs.Conditions.{when◌then◌else◌}
 use Rattle.format.specs.Marks.{bracket, brace}
 use Rattle.format.specs.Tokens.{leaf as kind_of_leaf, is_kind, Forest, none, node, size, ◌⊕◌}
 use Rattle.format.specs.Records.{member_width, total_width}
@@ -63,11 +63,11 @@ module _ (m : List ℕ) where
 
   -- no records
   columns_none : (stride : ℕ) (f : Forest) (place : ℕ) → in_columns m stride 0 f place ≡ nowhere
-  unfolding in_columns in_column if◌then◌else◌
+  unfolding in_columns in_column when◌then◌else◌
   columns_none stride none place = refl
   columns_none stride (node t below after) place = go (is_kind kind_of_leaf t.kind) (columns_none stride below place) (columns_none stride after (place + member_width t))
     where
-      go : {x y : ℕ} (b : Bool) → x ≡ nowhere → y ≡ nowhere → min (if b then nowhere else x) y ≡ nowhere
+      go : {x y : ℕ} (b : Bool) → x ≡ nowhere → y ≡ nowhere → min (when b then nowhere else x) y ≡ nowhere
       go true e f = omega arith
       go false e f = omega arith
 
@@ -75,7 +75,7 @@ module _ (m : List ℕ) where
   module _ (start stride k a : ℕ) where
     columns_first : (f : Forest) (n at place : ℕ) → start + at ≡ place
         → in_columns m stride (suc k) f place ≡ min (least m start (leaves n f a at)) (in_columns m stride k f (place + stride))
-    unfolding in_columns in_column leaves least if◌then◌else◌
+    unfolding in_columns in_column leaves least when◌then◌else◌
     columns_first none n at place h = omega arith
     columns_first (node t below after) n at place h =
         let v : start + (at + member_width t) ≡ place + member_width t = omega arith in
@@ -88,9 +88,9 @@ module _ (m : List ℕ) where
 
         go : (x y : ℕ) (b : Bool)
             → in_columns m stride (suc k) below place ≡ min (least m start (leaves (suc n) below a at)) (in_columns m stride k below (place + stride))
-            → min (if b then in_column m t.mark t.extent stride (suc k) place else in_columns m stride (suc k) below place) (min x y)
-            ≡ min (min (least m start (if b then slot_of ∷ [] else leaves (suc n) below a at)) x)
-            (min (if b then in_column m t.mark t.extent stride k (place + stride) else in_columns m stride k below (place + stride)) y)
+            → min (when b then in_column m t.mark t.extent stride (suc k) place else in_columns m stride (suc k) below place) (min x y)
+            ≡ min (min (least m start (when b then slot_of ∷ [] else leaves (suc n) below a at)) x)
+            (min (when b then in_column m t.mark t.extent stride k (place + stride) else in_columns m stride k below (place + stride)) y)
         go x y true e = let q = column_most t.mark t.extent stride k (place + stride) in rw (h, absorb _ _ nowhere q) (shuffle _ _ x y)
         go x y false e = rw e (shuffle _ _ x y)
 

@@ -7,7 +7,7 @@ use native.Mathlib.Omega.{arith}
 use lib.ListN.{length, get_or}
 use lib.Dec.{eqb}
 use borrow.Author.Tests.{lt-ltb, eq-eqb, ne_eqb}
-use Rattle.format.specs.Conditions.{if◌then◌else◌, among}
+use Rattle.format.specs.Conditions.{when◌then◌else◌, among}
 use Rattle.format.specs.Outcome.{fault, done, ◌>>=◌, ◌>>◌, guard}
 use Rattle.format.specs.Marks.{Opening, bracket, brace, is_plain_leaf, leaf_width, types, integers, 'H', 'S', '[', left_brace}
 use Rattle.format.specs.Tokens.{is_kind, Forest}
@@ -32,27 +32,27 @@ module _ (m : List ℕ) (lent : ℕ) (nest : Opening → Reader) (at row : ℕ) 
 
   module _ (there : at < length m) where
     pub kind_plain : is_plain_leaf (get_or m at 0) ≡ true → kind_by m lent nest at row ≡ plain_leaf m lent (get_or m at 0) at row
-    unfolding kind_by byte guard ◌>>◌ ◌>>=◌ if◌then◌else◌
+    unfolding kind_by byte guard ◌>>◌ ◌>>=◌ when◌then◌else◌
     kind_plain p = rw (lt-ltb _ _ there, p)
 
     pub kind_text : is_plain_leaf (get_or m at 0) ≡ false → get_or m at 0 ≡ 'S' → kind_by m lent nest at row ≡ text_leaf m lent at row
-    unfolding kind_by byte guard ◌>>◌ ◌>>=◌ if◌then◌else◌
+    unfolding kind_by byte guard ◌>>◌ ◌>>=◌ when◌then◌else◌
     kind_text p s = rw (lt-ltb _ _ there, p, eq-eqb _ _ s)
 
     pub kind_bracket : get_or m at 0 ≡ '[' → kind_by m lent nest at row ≡ nest bracket at row
-    unfolding kind_by byte guard ◌>>◌ ◌>>=◌ if◌then◌else◌ is_plain_leaf among types integers
+    unfolding kind_by byte guard ◌>>◌ ◌>>=◌ when◌then◌else◌ is_plain_leaf among types integers
     kind_bracket b = rw (lt-ltb _ _ there, b)
 
     pub kind_brace : get_or m at 0 ≡ left_brace → kind_by m lent nest at row ≡ nest brace at row
-    unfolding kind_by byte guard ◌>>◌ ◌>>=◌ if◌then◌else◌ is_plain_leaf among types integers
+    unfolding kind_by byte guard ◌>>◌ ◌>>=◌ when◌then◌else◌ is_plain_leaf among types integers
     kind_brace b = rw (lt-ltb _ _ there, b)
 
     pub kind_other : is_plain_leaf (get_or m at 0) ≡ false → (get_or m at 0 ≡ 'S' → ⊥) → (get_or m at 0 ≡ '[' → ⊥) → (get_or m at 0 ≡ left_brace → ⊥)
         → (r : Forest × ℕ) → kind_by m lent nest at row ≡ done r → ⊥
-    unfolding kind_by byte guard ◌>>◌ ◌>>=◌ if◌then◌else◌
+    unfolding kind_by byte guard ◌>>◌ ◌>>=◌ when◌then◌else◌
     kind_other p s a b r = rw (lt-ltb _ _ there, p, ne_eqb _ _ s, ne_eqb _ _ a, ne_eqb _ _ b) (go (eqb (get_or m at 0) 'H') _ _)
       where
-        go : (h : Bool) (n k : ℕ) → (if h then fault n at else fault k at) ≡ done r → ⊥
+        go : (h : Bool) (n k : ℕ) → (when h then fault n at else fault k at) ≡ done r → ⊥
         go true n k e = never e
         go false n k e = never e
 
@@ -73,12 +73,12 @@ module _ (m : List ℕ) (lent : ℕ) (nest : Opening → Reader) (at row : ℕ) 
 -- ---- a walk over a leaf
 
 pub leaf_wide : (mark at w : ℕ) → total_width (leaf mark at w) ≡ w
-unfolding leaf total_width member_width is_kind if◌then◌else◌
+unfolding leaf total_width member_width is_kind when◌then◌else◌
 leaf_wide mark at w = omega arith
 
 pub leaf_over_lem : (m : List ℕ) (mark w stride n place best next low : ℕ) → low ≡ min best (in_column m mark w stride n place)
     → (at : ℕ) → Over m stride n place best (leaf mark at w) next (record { next = next; place = place + w; best = low })
-unfolding leaf in_columns is_kind if◌then◌else◌
+unfolding leaf in_columns is_kind when◌then◌else◌
 leaf_over_lem m mark w stride n place best next low e at =
     let k = column_most m mark w stride n place in
     record { ended = refl; onward = rw (leaf_wide mark at w); lowest = e ∙ omega arith }

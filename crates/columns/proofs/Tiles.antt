@@ -6,7 +6,7 @@ use mathlib.Core.List.{List, [], ◌∷◌}
 use native.Mathlib.Omega.{arith}
 use lib.Dec.{leb}
 use borrow.Author.Tests.{le-leb}
-use Rattle.format.specs.Conditions.{if◌then◌else◌}
+use Rattle.format.specs.Conditions.{when◌then◌else◌}
 use Rattle.format.specs.Outcome.{Outcome, fault, done, ◌>>=◌, guard}
 use Rattle.format.specs.Limits.{limit}
 use Rattle.format.specs.Refusals.{wrong_content}
@@ -19,14 +19,14 @@ use Rattle.columns.specs.Least.{nowhere, wrong_at, least}
 
 -- what the least place of a wrong slot says
 unfoldable pub verdict : ℕ → Outcome (Unit {0})
-verdict p = if leb p limit then fault wrong_content p else done tt
+verdict p = when leb p limit then fault wrong_content p else done tt
 
 module _ (m : List ℕ) (start : ℕ) where
   pub wrong_from : (b mark w place : ℕ) → b ≤ nowhere → b ≤ place → b ≤ wrong_at m mark w place
-  unfolding wrong_at if◌then◌else◌
+  unfolding wrong_at when◌then◌else◌
   wrong_from b mark w place h k = go (is_content mark (bytes m place w))
     where
-      go : (t : Bool) → b ≤ (if t then nowhere else place)
+      go : (t : Bool) → b ≤ (when t then nowhere else place)
       go true = h
       go false = k
 
@@ -43,12 +43,12 @@ module _ (m : List ℕ) (start : ℕ) where
   least_most (s ∷ ss) = let y = least_most ss in omega arith
 
   pub contents-least : {end : ℕ} {ss : List (Slot ℕ)} {from : ℕ} → start + end ≤ limit → Tiles end from ss → contents m start ss ≡ verdict (least m start ss)
-  unfolding contents content verdict least wrong_at if◌then◌else◌ guard ◌>>=◌
+  unfolding contents content verdict least wrong_at when◌then◌else◌ guard ◌>>=◌
   contents-least h (no_slot e) = refl
   contents-least h (next_slot {s = s} {ss = ss} l t) = go (is_content s.mark (bytes m (start + s.offset) s.wide)) (contents-least h t) (least_most ss)
       (least-from (start + s.offset) (let e = tiles_end t in omega arith) (omega arith) t) (let e = tiles_end t in omega arith)
     where
       go : (b : Bool) → contents m start ss ≡ verdict (least m start ss) → least m start ss ≤ nowhere → start + s.offset ≤ least m start ss → start + s.offset ≤ limit
-          → (guard b wrong_content (start + s.offset) >>= (λ _. contents m start ss)) ≡ verdict (min (if b then nowhere else (start + s.offset)) (least m start ss))
+          → (guard b wrong_content (start + s.offset) >>= (λ _. contents m start ss)) ≡ verdict (min (when b then nowhere else (start + s.offset)) (least m start ss))
       go true e k j i = let q : min nowhere (least m start ss) ≡ least m start ss = omega arith in rw q e
       go false e k j i = let q : min (start + s.offset) (least m start ss) ≡ start + s.offset = omega arith in rw (q, le-leb _ _ i)

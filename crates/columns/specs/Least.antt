@@ -1,6 +1,6 @@
 -- The first wrong slot of a payload is the one with the least place. So the least is looked for, leaf by leaf.
 use Rattle.std.specs.Prelude.{ℕ, zero, suc, ◌+◌, ◌*◌, ◌≤◌, min, List, [], ◌∷◌, length}
-use Rattle.format.specs.Conditions.{if◌then◌else◌}
+use Rattle.format.specs.Conditions.{when◌then◌else◌}
 use Rattle.format.specs.Tokens.{leaf, is_kind, Forest, none, node}
 use Rattle.format.specs.Records.{member_width}
 use Rattle.format.specs.Storage.{Slot}
@@ -18,7 +18,7 @@ farthest = 2_097_152
 module _ (m : List ℕ) where
   -- the place of w bytes that are wrong under a mark
   unfoldable pub wrong_at : ℕ → ℕ → ℕ → ℕ
-  wrong_at mark w place = if is_content mark (bytes m place w) then nowhere else place
+  wrong_at mark w place = when is_content mark (bytes m place w) then nowhere else place
 
   -- of some slots, the least place of a wrong one
   unfoldable pub least : ℕ → List (Slot ℕ) → ℕ
@@ -34,7 +34,7 @@ module _ (m : List ℕ) where
   unfoldable pub in_columns : ℕ → ℕ → Forest → ℕ → ℕ
   in_columns stride n none place = nowhere
   in_columns stride n (node t below after) place =
-      min (if is_kind leaf t.kind then in_column t.mark t.extent stride n place else in_columns stride n below place)
+      min (when is_kind leaf t.kind then in_column t.mark t.extent stride n place else in_columns stride n below place)
       (in_columns stride n after (place + member_width t))
 
   -- of top-level fields, n values of each end to end

@@ -4,7 +4,7 @@ use mathlib.Core.Path.{◌≡◌, refl, ◌∙◌}
 use mathlib.Core.List.{List}
 use native.Mathlib.Omega.{arith}
 use native.Mathlib.Nat.{add-zero}
-use Rattle.format.specs.Conditions.{if◌then◌else◌}
+use Rattle.format.specs.Conditions.{when◌then◌else◌}
 use Rattle.format.specs.Outcome.{Outcome, Parsed, fault, done, ◌>>=◌}
 use Rattle.format.specs.Limits.{limit}
 use Rattle.format.specs.Marks.{Opening, bracket, brace, opens}
@@ -26,7 +26,7 @@ holder opening at start end count =
     record { kind = container_kind opening; mark = opens opening; first = at; payload = start; extent = end - start; count = count; order = plain_count }
 
 one_member : (opening : Opening) (at start end count : ℕ) (f : Forest) → members (node (holder opening at start end count) f none) ≡ 1
-unfolding members is_kind container_kind if◌then◌else◌
+unfolding members is_kind container_kind when◌then◌else◌
 one_member bracket at start end count f = refl
 one_member brace at start end count f = refl
 

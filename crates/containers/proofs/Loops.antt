@@ -5,7 +5,7 @@ use mathlib.Core.List.{List}
 use native.Mathlib.Omega.{arith}
 use lib.ListN.{length, get_or}
 use borrow.Author.Tests.{lt-ltb, le-ltb, eq-eqb, ne_eqb}
-use Rattle.format.specs.Conditions.{if◌then◌else◌}
+use Rattle.format.specs.Conditions.{when◌then◌else◌}
 use Rattle.format.specs.Outcome.{fault, done, ◌>>=◌, ◌>>◌, guard}
 use Rattle.format.specs.Limits.{limit}
 use Rattle.format.specs.Refusals.{ends_too_early}
@@ -71,13 +71,13 @@ module _ (m : List ℕ) (gap : ℕ → ℕ) (closing : ℕ) (item : Reader) (sta
 
   stop : (fuel at row : ℕ) → at ≤ gap at → length m ≤ at + fuel → gap at < length m → get_or m (gap at) 0 ≡ closing
       → until m fuel gap closing item at row ≡ done (none, gap at)
-  unfolding until byte guard ◌>>◌ ◌>>=◌ if◌then◌else◌
+  unfolding until byte guard ◌>>◌ ◌>>=◌ when◌then◌else◌
   stop zero at row u l h e = absurd (omega arith)
   stop (suc fuel) at row u l h e = rw (lt-ltb _ _ h, eq-eqb _ _ e)
 
   go : (fuel at row : ℕ) → at ≤ gap at → length m ≤ at + fuel → gap at < length m → (get_or m (gap at) 0 ≡ closing → ⊥)
       → (left : ℕ) × (fuel ≡ suc left) × (until m fuel gap closing item at row ≡ (item ⨾ until m left gap closing item) (gap at) row)
-  unfolding until byte guard ◌>>◌ ◌>>=◌ if◌then◌else◌
+  unfolding until byte guard ◌>>◌ ◌>>=◌ when◌then◌else◌
   go zero at row u l h e = absurd (omega arith)
   go (suc fuel) at row u l h e = (fuel, refl, rw (lt-ltb _ _ h, ne_eqb _ _ e))
 

@@ -9,13 +9,13 @@ use lib.ListN.{length, get_or, drop, drop_of_length-le}
 use lib.Seq.{drop-cons}
 use lib.Dec.{leb}
 use borrow.Author.Tests.{leb-true, leb-false, le-leb, lt-leb}
-use Rattle.format.specs.Conditions.{if◌then◌else◌, between, all}
+use Rattle.format.specs.Conditions.{when◌then◌else◌, between, all}
 use Rattle.format.specs.Text.{shaped}
 use Rattle.content.specs.Owed.{is_owed, can_stand}
 
 -- how many are owed, by whether one is, a second and a third
 count : Bool → Bool → Bool → ℕ
-count one two three = if one then (if two then (if three then 3 else 2) else 1) else 0
+count one two three = when one then (when two then (when three then 3 else 2) else 1) else 0
 
 -- how many bytes 80-BF are owed after the bytes a, b and c
 pub owed : ℕ → ℕ → ℕ → ℕ
@@ -23,7 +23,7 @@ owed a b c = count (is_owed a b c) (leb 0xE0 c || leb 0xF0 b) (leb 0xF0 c)
 
 -- while one is owed, the next byte is one of them
 counted : (two three : Bool) (x : ℕ) (xs : List ℕ) → shaped (count true two three) (x ∷ xs) ≡ (between 0x80 0xBF x && shaped (count two three false) xs)
-unfolding count if◌then◌else◌ shaped
+unfolding count when◌then◌else◌ shaped
 counted true true x xs = refl
 counted true false x xs = refl
 counted false three x xs = refl
@@ -45,7 +45,7 @@ anew a b c x e =
     simp (lt-leb 0xE0 c (omega arith), lt-leb 0xF0 c (omega arith), lt-leb 0xF0 b (omega arith), or-false)
 
 leads : (x : ℕ) (xs : List ℕ) → shaped 0 (x ∷ xs) ≡ ((leb x 0xF7 && beq false (between 0x80 0xBF x)) && shaped (count (leb 0xC0 x) (leb 0xE0 x) (leb 0xF0 x)) xs)
-unfolding shaped count between if◌then◌else◌
+unfolding shaped count between when◌then◌else◌
 leads x xs = go _ refl _ refl _ refl _ refl _ refl
   where
     go : (p : Bool) → leb x 0x7F ≡ p → (q : Bool) → leb x 0xBF ≡ q → (r : Bool) → leb x 0xDF ≡ r → (s : Bool) → leb x 0xEF ≡ s → (t : Bool) → leb x 0xF7 ≡ t
@@ -80,7 +80,7 @@ module _ (a b c x : ℕ) (xs : List ℕ) where
       go false q f = rw and-false
 
   fresh : is_owed a b c ≡ false → shaped (owed a b c) (x ∷ xs) ≡ (can_stand a b c x && shaped (owed b c x) xs)
-  unfolding can_stand count if◌then◌else◌ owed
+  unfolding can_stand count when◌then◌else◌ owed
   fresh e = rw (anew a b c x e, e) (leads x xs)
 
   shaped_cons : shaped (owed a b c) (x ∷ xs) ≡ (can_stand a b c x && shaped (owed b c x) xs)
@@ -92,14 +92,14 @@ module _ (a b c x : ℕ) (xs : List ℕ) where
 
 -- text from its first byte, byte by byte, and at its end
 pub shaped_start : (s : List ℕ) → shaped 0 s ≡ shaped (owed 0 0 0) (drop 0 s)
-unfolding owed is_owed count if◌then◌else◌
+unfolding owed is_owed count when◌then◌else◌
 shaped_start s = refl
 
 pub shaped_on : (s : List ℕ) (a b c i : ℕ) → i < length s → shaped (owed a b c) (drop i s) ≡ (can_stand a b c (get_or s i 0) && shaped (owed b c (get_or s i 0)) (drop (i + 1) s))
 shaped_on s a b c i h = rw (add-one i, drop-cons s i 0) (shaped_cons a b c (get_or s i 0) _)
 
 end_counted : (one two three : Bool) → shaped (count one two three) [] ≡ not one
-unfolding count if◌then◌else◌ shaped
+unfolding count when◌then◌else◌ shaped
 end_counted true true true = refl
 end_counted true true false = refl
 end_counted true false three = refl
@@ -115,6 +115,6 @@ both true q e = (refl, e)
 both false q e = (e, cc)
 
 pub chars_shaped : (s : List ℕ) → all (λ b. leb b 127) s ≡ true → shaped 0 s ≡ true
-unfolding shaped all if◌then◌else◌
+unfolding shaped all when◌then◌else◌
 chars_shaped [] e = refl
 chars_shaped (b ∷ bs) e = let f = both (leb b 127) (all (λ b. leb b 127) bs) e in rw f.0 (chars_shaped bs f.1)

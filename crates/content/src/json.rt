@@ -1,6 +1,6 @@
 // JSON numbers, a byte at a time.
 ghost use Rattle.std.specs.Prelude.{◌≡◌};
-ghost use Rattle.format.specs.Conditions.{if◌then◌else◌};
+ghost use Rattle.format.specs.Conditions.{when◌then◌else◌};
 ghost use Rattle.format.specs.JsonNumber.{start, letter, is_digit, leading as leading_of, after_fraction as after_fraction_of, after_whole as after_whole_of, step as step_of, ends as ends_at, is_number};
 ghost use Rattle.content.specs.Stages.{stage_of};
 
@@ -30,7 +30,7 @@ fn is_digit(b: u8) -> bool
 
 // `digit` where b is a digit, else `other`.
 fn on_digit(b: u8, digit: Stage, other: Stage) -> Stage
-    ensures { stage_of result ≡ (if is_digit b then stage_of digit else stage_of other) }
+    ensures { stage_of result ≡ (when is_digit b then stage_of digit else stage_of other) }
 {
     if is_digit(b) {
         return digit;

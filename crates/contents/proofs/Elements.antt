@@ -10,7 +10,7 @@ use lib.ListN.{length, get_or}
 use lib.Seq.{drop-cons}
 use lib.Dec.{leb, eqb}
 use borrow.Author.Tests.{le-leb, lt-leb, ne_eqb, not-true}
-use Rattle.format.specs.Conditions.{if◌then◌else◌, among, all}
+use Rattle.format.specs.Conditions.{when◌then◌else◌, among, all}
 use Rattle.format.specs.Outcome.{Outcome, fault, done, ◌>>=◌, guard}
 use Rattle.format.specs.Refusals.{wrong_content}
 use Rattle.format.specs.Marks.{integers, types, is_type, width, 'C', 'H', 'S', 'T'}
@@ -27,7 +27,7 @@ not_letter x mark a h = not-true (eqb mark x) (among_passes (λ k. not (eqb k x)
 
 -- under a type that is no char, any bytes are right
 any_bytes : (mark : ℕ) (bs : List ℕ) → is_type mark ≡ true → (mark ≡ 'C' → ⊥) → is_content mark bs ≡ true
-unfolding is_content if◌then◌else◌ types integers all
+unfolding is_content when◌then◌else◌ types integers all
 any_bytes mark bs h c = rw (not_letter 'S' mark refl h, not_letter 'H' mark refl h, ne_eqb mark 'C' c, not_letter 'T' mark refl h)
 
 module _ (m : List ℕ) (start row mark : ℕ) where
@@ -59,11 +59,11 @@ module _ (m : List ℕ) (start row mark : ℕ) where
 -- chars: one byte each
 module _ (m : List ℕ) (start row n : ℕ) where
   char : (at : ℕ) → start + at < length m → is_content 'C' (bytes m (start + at) (width 'C')) ≡ leb (get_or m (start + at) 0) 127
-  unfolding is_content bytes width all among if◌then◌else◌
+  unfolding is_content bytes width all among when◌then◌else◌
   char at h = rw (drop-cons m (start + at) 0) (and-true (leb (get_or m (start + at) 0) 127))
 
   char_wide : width 'C' ≡ 1
-  unfolding width among if◌then◌else◌
+  unfolding width among when◌then◌else◌
   char_wide = refl
 
   turn : (i : ℕ) → i < n → n - i ≡ suc (n - (i + 1))
@@ -79,5 +79,5 @@ module _ (m : List ℕ) (start row n : ℕ) where
   char_off i h l e = ap (λ j. from m start row 'C' i j i) (turn i h) ∙ wrong m start row 'C' i (n - (i + 1)) i (char i l ∙ lt-leb _ _ e)
 
 pub chars_fit : (mark start n end : ℕ) → mark ≡ 'C' → start + n * width mark ≤ end → start + n ≤ end
-unfolding width among if◌then◌else◌
+unfolding width among when◌then◌else◌
 chars_fit mark start n end e h = let k = rw (e, mul-one n) at h in k

@@ -8,7 +8,7 @@ use native.Mathlib.Nat.{le_refl}
 use lib.ListN.{length, get_or}
 use lib.Dec.{ltb}
 use borrow.Author.Tests.{ltb-true}
-use Rattle.format.specs.Conditions.{if◌then◌else◌}
+use Rattle.format.specs.Conditions.{when◌then◌else◌}
 use Rattle.format.specs.Outcome.{done, guard}
 use Rattle.format.specs.Marks.{Opening, bracket, brace, opening_of, closes}
 use Rattle.format.specs.Tokens.{is_kind, Forest, below_first}
@@ -111,12 +111,12 @@ not_nested m lent (suc k) o at row f next h e = absurd (omega arith)
 
 -- as wide as what is below it, with the same leaves
 pub group_wide : (o : Opening) (at : ℕ) (under : Forest) → total_width (group (group_kind o) o at under) ≡ total_width under
-unfolding group total_width member_width is_kind if◌then◌else◌
+unfolding group total_width member_width is_kind when◌then◌else◌
 group_wide bracket at under = omega arith
 group_wide brace at under = omega arith
 
 pub group_columns : (m : List ℕ) (stride n : ℕ) (o : Opening) (at : ℕ) (under : Forest) (place : ℕ) → in_columns m stride n (group (group_kind o) o at under) place ≡ in_columns m stride n under place
-unfolding group in_columns is_kind if◌then◌else◌
+unfolding group in_columns is_kind when◌then◌else◌
 group_columns m stride n bracket at under place = let k = columns_most m stride n under place in omega arith
 group_columns m stride n brace at under place = let k = columns_most m stride n under place in omega arith
 

@@ -7,7 +7,7 @@ use native.Mathlib.Nat.{mul-add}
 use lib.ListN.{length, get_or}
 use lib.Dec.{ltb, eqb}
 use borrow.Author.Tests.{eq-eqb, ne_eqb}
-use Rattle.format.specs.Conditions.{if◌then◌else◌}
+use Rattle.format.specs.Conditions.{when◌then◌else◌}
 use Rattle.format.specs.Outcome.{done, ◌>>=◌, guard}
 use Rattle.format.specs.Limits.{limit}
 use Rattle.format.specs.Marks.{Opening, bracket, brace, closes, is_integer, 'S'}
@@ -91,7 +91,7 @@ pub record Alike (f g : Forest) : Type 0 where
 
 -- a key takes no bytes of a record
 pub alike : {f g : Forest} → Unkeyed f g → Alike f g
-unfolding total_width in_columns in_fields member_width is_kind if◌then◌else◌
+unfolding total_width in_columns in_fields member_width is_kind when◌then◌else◌
 alike bare = record { wide = refl; columns = λ m stride n place. refl; fields = λ m n place. refl }
 alike (named {t = t} {f = g} k) = record {
   wide = rw k (omega arith);
@@ -169,7 +169,7 @@ module _ (m : List ℕ) (lent : ℕ) (kind : Reader) where
           (omega arith, y.lent)
 
       -- what follows it
-      run_after : (byte m run_turn.mid >>= (λ b. if eqb b (closes o) then done (none, run_turn.mid) else run o run_turn.mid (row + size run_turn.former))) ≡ done (run_turn.latter, end)
+      run_after : (byte m run_turn.mid >>= (λ b. when eqb b (closes o) then done (none, run_turn.mid) else run o run_turn.mid (row + size run_turn.former))) ≡ done (run_turn.latter, end)
       unfolding run
       run_after = sym (until_step m lent (λ here. here) (closes o) (item_of m lent o kind) (λ a. omega arith) (item_bounded o) run_turn.mid (row + size run_turn.former) run_read.1) ∙ run_turn.second
 
@@ -178,7 +178,7 @@ module _ (m : List ℕ) (lent : ℕ) (kind : Reader) where
 
       -- the closing mark stands there
       pub run_closed : get_or m run_turn.mid 0 ≡ closes o → (f ≡ run_turn.former) × (end ≡ run_turn.mid)
-      unfolding if◌then◌else◌
+      unfolding when◌then◌else◌
       run_closed c =
           let x = bind_done (byte m run_turn.mid) _ run_after in
           let b = (byte_there run_turn.mid x.0 x.1).1 in
@@ -187,7 +187,7 @@ module _ (m : List ℕ) (lent : ℕ) (kind : Reader) where
 
       -- another follows
       pub run_next : (run_turn.mid < length m → get_or m run_turn.mid 0 ≡ closes o → ⊥) → run o run_turn.mid (row + size run_turn.former) ≡ done (run_turn.latter, end)
-      unfolding if◌then◌else◌
+      unfolding when◌then◌else◌
       run_next c =
           let x = bind_done (byte m run_turn.mid) _ run_after in
           let h = byte_there run_turn.mid x.0 x.1 in

@@ -8,7 +8,7 @@ use native.Mathlib.Nat.{mul-add}
 use lib.ListN.{length}
 use borrow.Author.Tests.{le-leb, lt-leb}
 use Rattle.format.specs.Refusals.{wrong_content}
-use Rattle.format.specs.Conditions.{if◌then◌else◌}
+use Rattle.format.specs.Conditions.{when◌then◌else◌}
 use Rattle.format.specs.Outcome.{Outcome, fault, done}
 use Rattle.format.specs.Limits.{limit, record_limit}
 use Rattle.format.specs.Marks.{Opening, bracket, brace}
@@ -169,9 +169,9 @@ module _ {m : List ℕ} {schema wide count start lent row next : ℕ} {s : Fores
       contents-least m start f (records_tile o n b (below count))
 
 pub verdict_wrong : (p : ℕ) → p ≤ limit → fault wrong_content p ≡ verdict p
-unfolding verdict if◌then◌else◌
+unfolding verdict when◌then◌else◌
 verdict_wrong p h = rw (le-leb _ _ h)
 
 pub verdict_right : (p : ℕ) → limit < p → done tt ≡ verdict p
-unfolding verdict if◌then◌else◌
+unfolding verdict when◌then◌else◌
 verdict_right p h = rw (lt-leb _ _ h)

@@ -41,5 +41,5 @@ message =
 -- With six it is accepted, and demand 2 holds of it.
 pub example_12 : (rows_needed message ≡ done 6) × RowsNeeded message new 6 × (read_into message (zeros 50) new ≡ fault no_row_left 10)
     × (f : Forest) × Demand2 message (zeros 60) (zeros 19) new f
-unfolding Conditions.if◌then◌else◌ Conditions.among Conditions.all Outcome.◌>>=◌ Outcome.◌>>◌ Outcome.guard Marks.opens Marks.closes Marks.integers Marks.is_integer Marks.signed_integers Marks.is_signed Marks.types Marks.is_scalar Marks.is_plain_leaf Marks.is_boolean Marks.width Marks.leaf_width Text.is_text Text.shaped Content.is_content Content.content Content.contents Content.payload_end Tokens.size Tokens.◌⊕◌ Tokens.below_first Tokens.is_kind Tokens.members Rows.rows_in Records.member_width Records.total_width Records.at_offset Records.placed Indexes.product Indexes.count_from Storage.end_to_end Storage.leaves Storage.by_rows Storage.records Bytes.little Bytes.leading_noops Bytes.bytes Bytes.skip Bytes.reach Bytes.byte Bytes.one_of Integers.is_negative Integers.number Integers.integer_to Sequences.row_left Sequences.◌⨾◌ Sequences.until Scalars.scalar Scalars.text Scalars.key Dimensions.plain Dimensions.shape Schemas.leaf Schemas.group Schemas.plain_leaf Schemas.enclosed Schemas.schema Schemas.kind_by Schemas.group_by Schemas.nested Schemas.table_schema Containers.container_kind Containers.container Containers.stored Containers.table Containers.plain Containers.items Containers.typed Containers.container_by Read.value_by Read.nested Read.read Read.read_into Read.read_whole Read.rows_used
+unfolding Conditions.when◌then◌else◌ Conditions.among Conditions.all Outcome.◌>>=◌ Outcome.◌>>◌ Outcome.guard Marks.opens Marks.closes Marks.integers Marks.is_integer Marks.signed_integers Marks.is_signed Marks.types Marks.is_scalar Marks.is_plain_leaf Marks.is_boolean Marks.width Marks.leaf_width Text.is_text Text.shaped Content.is_content Content.content Content.contents Content.payload_end Tokens.size Tokens.◌⊕◌ Tokens.below_first Tokens.is_kind Tokens.members Rows.rows_in Records.member_width Records.total_width Records.at_offset Records.placed Indexes.product Indexes.count_from Storage.end_to_end Storage.leaves Storage.by_rows Storage.records Bytes.little Bytes.leading_noops Bytes.bytes Bytes.skip Bytes.reach Bytes.byte Bytes.one_of Integers.is_negative Integers.number Integers.integer_to Sequences.row_left Sequences.◌⨾◌ Sequences.until Scalars.scalar Scalars.text Scalars.key Dimensions.plain Dimensions.shape Schemas.leaf Schemas.group Schemas.plain_leaf Schemas.enclosed Schemas.schema Schemas.kind_by Schemas.group_by Schemas.nested Schemas.table_schema Containers.container_kind Containers.container Containers.stored Containers.table Containers.plain Containers.items Containers.typed Containers.container_by Read.value_by Read.nested Read.read Read.read_into Read.read_whole Read.rows_used
 example_12 = (refl, panel_rows_needed message 6 refl, refl, _, demand2 message (zeros 60) (zeros 19) new _ refl)

@@ -54,10 +54,10 @@ pub each_refused : Refuses (zeros (suc limit)) 0 message_too_long 0
     × Refuses (0x5A ∷ []) 9 no_row_left 0
     × Refuses (0x5A ∷ 0x5A ∷ []) 10 bytes_after 1
     × Refuses (0x5B ∷ 0x24 ∷ 0x7B ∷ 0x55 ∷ 1 ∷ 0x61 ∷ 0x48 ∷ []) 30 not_built 6
-unfolding Conditions.if◌then◌else◌ Conditions.among Conditions.all Outcome.◌>>=◌ Outcome.◌>>◌ Outcome.guard Marks.opens Marks.closes Marks.integers Marks.is_integer Marks.signed_integers Marks.is_signed Marks.types Marks.is_scalar Marks.is_plain_leaf Marks.is_boolean Marks.width Marks.leaf_width Text.is_text Text.shaped Content.is_content Content.content Content.contents Content.payload_end Tokens.size Tokens.◌⊕◌ Tokens.below_first Tokens.is_kind Tokens.members Rows.rows_in Records.member_width Records.total_width Records.at_offset Records.placed Indexes.product Indexes.count_from Storage.end_to_end Storage.leaves Storage.by_rows Storage.records Bytes.little Bytes.leading_noops Bytes.bytes Bytes.skip Bytes.reach Bytes.byte Bytes.one_of Integers.is_negative Integers.number Integers.integer_to Sequences.row_left Sequences.◌⨾◌ Sequences.until Scalars.scalar Scalars.text Scalars.key Dimensions.plain Dimensions.shape Schemas.leaf Schemas.group Schemas.plain_leaf Schemas.enclosed Schemas.schema Schemas.kind_by Schemas.group_by Schemas.nested Schemas.table_schema Containers.container_kind Containers.container Containers.stored Containers.table Containers.plain Containers.items Containers.typed Containers.container_by Read.value_by Read.nested Read.read Read.read_into
+unfolding Conditions.when◌then◌else◌ Conditions.among Conditions.all Outcome.◌>>=◌ Outcome.◌>>◌ Outcome.guard Marks.opens Marks.closes Marks.integers Marks.is_integer Marks.signed_integers Marks.is_signed Marks.types Marks.is_scalar Marks.is_plain_leaf Marks.is_boolean Marks.width Marks.leaf_width Text.is_text Text.shaped Content.is_content Content.content Content.contents Content.payload_end Tokens.size Tokens.◌⊕◌ Tokens.below_first Tokens.is_kind Tokens.members Rows.rows_in Records.member_width Records.total_width Records.at_offset Records.placed Indexes.product Indexes.count_from Storage.end_to_end Storage.leaves Storage.by_rows Storage.records Bytes.little Bytes.leading_noops Bytes.bytes Bytes.skip Bytes.reach Bytes.byte Bytes.one_of Integers.is_negative Integers.number Integers.integer_to Sequences.row_left Sequences.◌⨾◌ Sequences.until Scalars.scalar Scalars.text Scalars.key Dimensions.plain Dimensions.shape Schemas.leaf Schemas.group Schemas.plain_leaf Schemas.enclosed Schemas.schema Schemas.kind_by Schemas.group_by Schemas.nested Schemas.table_schema Containers.container_kind Containers.container Containers.stored Containers.table Containers.plain Containers.items Containers.typed Containers.container_by Read.value_by Read.nested Read.read Read.read_into
 each_refused = (over_limit_lem (suc limit) refl, refl, refl, refl, refl, refl, refl, refl, refl, refl)
 
 -- the house form of `[]` has four bytes: three are too few
 pub output_refused : rewrite_into (0x5B ∷ 0x5D ∷ []) (zeros 10) (zeros 3) new ≡ fault output_too_long 0
-unfolding Conditions.if◌then◌else◌ Conditions.among Conditions.all Outcome.◌>>=◌ Outcome.◌>>◌ Outcome.guard Marks.opens Marks.closes Marks.integers Marks.is_integer Marks.signed_integers Marks.is_signed Marks.types Marks.is_scalar Marks.is_plain_leaf Marks.is_boolean Marks.width Marks.leaf_width Text.is_text Text.shaped Content.is_content Content.content Content.contents Content.payload_end Tokens.size Tokens.◌⊕◌ Tokens.below_first Tokens.is_kind Tokens.members Rows.rows_in Records.member_width Records.total_width Records.at_offset Records.placed Indexes.product Indexes.count_from Storage.end_to_end Storage.leaves Storage.by_rows Storage.records Bytes.little Bytes.leading_noops Bytes.bytes Bytes.skip Bytes.reach Bytes.byte Bytes.one_of Integers.is_negative Integers.number Integers.integer_to Sequences.row_left Sequences.◌⨾◌ Sequences.until Scalars.scalar Scalars.text Scalars.key Dimensions.plain Dimensions.shape Schemas.leaf Schemas.group Schemas.plain_leaf Schemas.enclosed Schemas.schema Schemas.kind_by Schemas.group_by Schemas.nested Schemas.table_schema Containers.container_kind Containers.container Containers.stored Containers.table Containers.plain Containers.items Containers.typed Containers.container_by Read.value_by Read.nested Read.read Read.read_into HouseForm.digits HouseForm.small_integer HouseForm.whole HouseForm.token HouseForm.written HouseForm.house HouseForm.rewrite Integers.smallest
+unfolding Conditions.when◌then◌else◌ Conditions.among Conditions.all Outcome.◌>>=◌ Outcome.◌>>◌ Outcome.guard Marks.opens Marks.closes Marks.integers Marks.is_integer Marks.signed_integers Marks.is_signed Marks.types Marks.is_scalar Marks.is_plain_leaf Marks.is_boolean Marks.width Marks.leaf_width Text.is_text Text.shaped Content.is_content Content.content Content.contents Content.payload_end Tokens.size Tokens.◌⊕◌ Tokens.below_first Tokens.is_kind Tokens.members Rows.rows_in Records.member_width Records.total_width Records.at_offset Records.placed Indexes.product Indexes.count_from Storage.end_to_end Storage.leaves Storage.by_rows Storage.records Bytes.little Bytes.leading_noops Bytes.bytes Bytes.skip Bytes.reach Bytes.byte Bytes.one_of Integers.is_negative Integers.number Integers.integer_to Sequences.row_left Sequences.◌⨾◌ Sequences.until Scalars.scalar Scalars.text Scalars.key Dimensions.plain Dimensions.shape Schemas.leaf Schemas.group Schemas.plain_leaf Schemas.enclosed Schemas.schema Schemas.kind_by Schemas.group_by Schemas.nested Schemas.table_schema Containers.container_kind Containers.container Containers.stored Containers.table Containers.plain Containers.items Containers.typed Containers.container_by Read.value_by Read.nested Read.read Read.read_into HouseForm.digits HouseForm.small_integer HouseForm.whole HouseForm.token HouseForm.written HouseForm.house HouseForm.rewrite Integers.smallest
 output_refused = refl

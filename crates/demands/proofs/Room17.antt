@@ -73,7 +73,7 @@ answer b = done (record { kind = leaf; value = boolean b })
 -- Room 17's mark reads as false, and then as true; and all that demand 3 says of such a change holds.
 pub room_17 : (value_at ward (after_reading ward lent new) room17 ≡ answer false) × (value_at heard (after_reading heard lent new) room17 ≡ answer true)
     × Unchanged ward lent new room17 heard lent
-unfolding Conditions.if◌then◌else◌ Conditions.among Conditions.all Outcome.◌>>=◌ Outcome.◌>>◌ Outcome.guard Marks.opens Marks.closes Marks.integers Marks.is_integer Marks.signed_integers Marks.is_signed Marks.types Marks.is_scalar Marks.is_plain_leaf Marks.is_leaf Marks.is_boolean Marks.width Marks.leaf_width Text.is_text Text.shaped Content.is_content Content.content Content.contents Content.payload_end Tokens.size Tokens.◌⊕◌ Tokens.below_first Tokens.is_kind Rows.layout Rows.word Rows.row_at Rows.rows_in Rows.held_by Rows.row_of Rows.rows Rows.words_of Rows.all_rows Rows.all_words Rows.filled Records.member_width Records.total_width Records.at_offset Records.placed Indexes.product Indexes.in_range Indexes.count_from Indexes.last_number Indexes.number_in Storage.end_to_end Storage.leaves Storage.by_rows Storage.records Bytes.little Bytes.leading_noops Bytes.within Bytes.bytes Bytes.skip Bytes.reach Bytes.byte Bytes.one_of Integers.is_negative Integers.number Integers.integer_to Sequences.row_left Sequences.◌⨾◌ Sequences.until Scalars.key Dimensions.plain Dimensions.shape Schemas.leaf Schemas.group Schemas.plain_leaf Schemas.enclosed Schemas.schema Schemas.kind_by Schemas.group_by Schemas.nested Schemas.table_schema Containers.stored Containers.table Containers.typed Containers.container_by Read.value_by Read.nested Read.read Read.read_into Read.words_after Addresses.is_a Addresses.is_table Addresses.is_key Addresses.is_leaf_row Addresses.is_schema Addresses.is_member Addresses.child_of Addresses.along Addresses.dimensions Addresses.seek Addresses.inside Addresses.table_slot Values.value_of Values.scalar_at Values.value_in_table Named.call Reads.value_at
+unfolding Conditions.when◌then◌else◌ Conditions.among Conditions.all Outcome.◌>>=◌ Outcome.◌>>◌ Outcome.guard Marks.opens Marks.closes Marks.integers Marks.is_integer Marks.signed_integers Marks.is_signed Marks.types Marks.is_scalar Marks.is_plain_leaf Marks.is_leaf Marks.is_boolean Marks.width Marks.leaf_width Text.is_text Text.shaped Content.is_content Content.content Content.contents Content.payload_end Tokens.size Tokens.◌⊕◌ Tokens.below_first Tokens.is_kind Rows.layout Rows.word Rows.row_at Rows.rows_in Rows.held_by Rows.row_of Rows.rows Rows.words_of Rows.all_rows Rows.all_words Rows.filled Records.member_width Records.total_width Records.at_offset Records.placed Indexes.product Indexes.in_range Indexes.count_from Indexes.last_number Indexes.number_in Storage.end_to_end Storage.leaves Storage.by_rows Storage.records Bytes.little Bytes.leading_noops Bytes.within Bytes.bytes Bytes.skip Bytes.reach Bytes.byte Bytes.one_of Integers.is_negative Integers.number Integers.integer_to Sequences.row_left Sequences.◌⨾◌ Sequences.until Scalars.key Dimensions.plain Dimensions.shape Schemas.leaf Schemas.group Schemas.plain_leaf Schemas.enclosed Schemas.schema Schemas.kind_by Schemas.group_by Schemas.nested Schemas.table_schema Containers.stored Containers.table Containers.typed Containers.container_by Read.value_by Read.nested Read.read Read.read_into Read.words_after Addresses.is_a Addresses.is_table Addresses.is_key Addresses.is_leaf_row Addresses.is_schema Addresses.is_member Addresses.child_of Addresses.along Addresses.dimensions Addresses.seek Addresses.inside Addresses.table_slot Values.value_of Values.scalar_at Values.value_in_table Named.call Reads.value_at
 room_17 = (
   refl,
   refl,

@@ -8,7 +8,7 @@ use lib.ListN.{length, get_or, set, take, drop, replicate, length-set, length-re
 use lib.Seq.{drop-cons, take-take, get_or-set_same, get_or-set_other}
 use lib.Dec.{leb, ltb, eqb}
 use borrow.Author.Tests.{le-leb, ltb-true, eqb-true, eqb-false, ne_eqb}
-use Rattle.format.specs.Conditions.{if◌then◌else◌, among, all}
+use Rattle.format.specs.Conditions.{when◌then◌else◌, among, all}
 use Rattle.format.specs.Outcome.{done}
 use Rattle.format.specs.Limits.{limit}
 use Rattle.format.specs.Marks.{integers, is_integer, signed_integers, is_signed, types, is_scalar, width, 'C', 'F', 'S', 'T', 'U', 'Z'}
@@ -39,7 +39,7 @@ all_fewer p m start n k h e = rw (← take-take n k (drop start m) h) (all_take 
 
 -- bytes below 128 are text
 letters_text : (bs : List ℕ) → all (λ b. leb b 127) bs ≡ true → is_text bs ≡ true
-unfolding all is_text shaped if◌then◌else◌
+unfolding all is_text shaped when◌then◌else◌
 letters_text [] e = refl
 letters_text (b ∷ bs) e = let h = both_true (leb b 127) (all _ bs) e in rw h.0 (letters_text bs h.1)
 
@@ -76,7 +76,7 @@ sizes-set {sizes} k n e w s =
 
 -- under a scalar's mark other than `C` any bytes are right
 scalar_content : (m : List ℕ) (mark start : ℕ) → is_scalar mark ≡ true → (mark ≡ 'C' → ⊥) → is_content mark (bytes m start (width mark)) ≡ true
-unfolding is_scalar types integers all among width is_content bytes if◌then◌else◌
+unfolding is_scalar types integers all among width is_content bytes when◌then◌else◌
 scalar_content m mark start s c =
     let e = among_passes (λ k. eqb k 'C' || is_content k (bytes m start (width k))) ('Z' ∷ 'T' ∷ 'F' ∷ types) mark refl s in
     subst (λ b. (b || is_content mark (bytes m start (width mark))) ≡ true) (ne_eqb _ _ c) e
@@ -99,7 +99,7 @@ module _ (m : List ℕ) (at : ℕ) where
 
   -- `C` and a char
   pub char_ends : at + 2 ≤ length m → get_or m at 0 ≡ 'C' → get_or m (at + 1) 0 ≤ 127 → ScalarEnds m at (at + 2)
-  unfolding is_scalar types integers among width is_content bytes all if◌then◌else◌
+  unfolding is_scalar types integers among width is_content bytes all when◌then◌else◌
   char_ends h e b =
       let d = drop-cons m (at + 1) 0 (omega arith) in
       record {
@@ -112,7 +112,7 @@ module _ (m : List ℕ) (at : ℕ) where
   -- any scalar, where a char is not over 127
   pub spans_ends : (n : ℕ) → Spans (get_or m at 0) n → n ≤ 9 → at + n ≤ length m → length m ≤ limit → (get_or m at 0 * 2 + get_or m (at + 1) 0 / 128 ≡ 135 → ⊥)
       → get_or m (at + 1) 0 < 256 → ScalarEnds m at (at + n)
-  unfolding width among if◌then◌else◌
+  unfolding width among when◌then◌else◌
   spans_ends n r few h l c b = go (eqb (get_or m at 0) 'C') refl
     where
       go : (x : Bool) → eqb (get_or m at 0) 'C' ≡ x → ScalarEnds m at (at + n)
@@ -130,14 +130,14 @@ module _ (m : List ℕ) (at : ℕ) where
 module _ (m : List ℕ) (start : ℕ) where
   -- a number under `U`
   one_byte : (place next : ℕ) → next ≡ start + 1 → next ≤ length m → get_or m start 0 < 256 → number m limit 'U' place start ≡ done (get_or m start 0, next)
-  unfolding width is_negative is_signed signed_integers among little bytes if◌then◌else◌
+  unfolding width is_negative is_signed signed_integers among little bytes when◌then◌else◌
   one_byte place next e h b =
       let n : little (bytes m start 1) ≡ get_or m start 0 = omega (arith, little_front m start 0 (omega arith)) in
       number-done m limit 'U' place start (omega arith) refl (omega arith) ∙ rw (n, e) refl
 
   -- a payload below 128 is a text's
   letters_end : (n : ℕ) → start + n ≤ length m → all (λ b. leb b 127) (bytes m start n) ≡ true → payload_end m 'S' start n ≡ done (start + n)
-  unfolding is_content if◌then◌else◌
+  unfolding is_content when◌then◌else◌
   letters_end n h a = payload_done m 'S' start n h (letters_text _ a)
 
 module _ (m : List ℕ) (at : ℕ) where

@@ -5,7 +5,7 @@ use mathlib.Core.List.{List, [], ◌++◌}
 use native.Mathlib.Omega.{arith}
 use lib.ListN.{length, drop, length-append, length-take, length-drop}
 use lib.Dec.{eqb}
-use Rattle.format.specs.Conditions.{if◌then◌else◌}
+use Rattle.format.specs.Conditions.{when◌then◌else◌}
 use Rattle.format.specs.Limits.{limit}
 use Rattle.format.specs.Marks.{letter_of, 'S'}
 use Rattle.format.specs.Rows.{Row}
@@ -21,8 +21,8 @@ record Few (n : ℕ) (l : List ℕ) : Type 0 where
   few : length l ≤ n
 
 -- what holds of both holds of either
-either : {n : ℕ} {x y : List ℕ} (b : Bool) → Few n x → Few n y → Few n (if b then x else y)
-unfolding if◌then◌else◌
+either : {n : ℕ} {x y : List ℕ} (b : Bool) → Few n x → Few n y → Few n (when b then x else y)
+unfolding when◌then◌else◌
 either true h k = h
 either false h k = k
 
@@ -59,7 +59,7 @@ module _ (m : List ℕ) (short : length m ≤ limit) where
           let i = integer_few r.extent in
           let c = integer_few r.count in
           let l = length-append (small_integer r.extent) (bytes m r.payload r.extent) in
-          let k : Few 9 (if eqb (letter_of r.mark) 'S' then small_integer r.extent else []) = either _ (record { few = i }) (record { few = omega arith }) in
+          let k : Few 9 (when eqb (letter_of r.mark) 'S' then small_integer r.extent else []) = either _ (record { few = i }) (record { few = omega arith }) in
           either _ (record { few = omega arith }) (either _ (record { few = omega arith }) (either _ (record { few = omega arith }) (either _ (record { few = omega arith }) (record { few = omega arith }))))
 
   pub tail_few : (r : Row) → length (tail m r) ≤ limit + 18

@@ -7,7 +7,7 @@ use native.Mathlib.Omega.{arith}
 use native.Mathlib.Nat.{add-zero}
 use lib.ListN.{length, length-append}
 use borrow.Author.Tests.{eqb-true}
-use Rattle.format.specs.Conditions.{if◌then◌else◌}
+use Rattle.format.specs.Conditions.{when◌then◌else◌}
 use Rattle.format.specs.Tokens.{Token, kind_number, leaf, is_kind, Forest, none, node, size, ◌⊕◌, members}
 use Rattle.format.specs.Records.{member_width, total_width}
 use Rattle.format.specs.Rows.{Ancestry, held_by, rows}
@@ -43,7 +43,7 @@ width_append (node t below after) g = let e = width_append after g in omega arit
 
 -- a leaf is as wide as its payload
 pub leaf_width : (t : Token) → is_kind leaf t.kind ≡ true → member_width t ≡ t.extent
-unfolding member_width is_kind if◌then◌else◌
+unfolding member_width is_kind when◌then◌else◌
 leaf_width t h = rw (← eqb-true (kind_number leaf) (kind_number t.kind) h)
 
 -- ---- their rows

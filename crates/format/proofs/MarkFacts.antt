@@ -6,7 +6,7 @@ use mathlib.Core.List.{List, [], ◌∷◌}
 use native.Mathlib.Omega.{arith}
 use lib.Dec.{eqb, ltb}
 use borrow.Author.Tests.{eqb-true, ltb-true}
-use Rattle.format.specs.Conditions.{if◌then◌else◌, among, all}
+use Rattle.format.specs.Conditions.{when◌then◌else◌, among, all}
 use Rattle.format.specs.Marks.{integers, is_integer, signed_integers, is_signed, types, is_type, is_plain_leaf, is_leaf, width, letter_of, 'B', 'C', 'D', 'I', 'L', 'M', 'S', 'T', 'U', 'Z', 'd', 'h', 'i', 'l', 'm', 'u'}
 
 pub among_passes : (p : ℕ → Bool) (l : List ℕ) (x : ℕ) → all p l ≡ true → among l x ≡ true → p x ≡ true
@@ -22,7 +22,7 @@ among_passes p (y ∷ l) x a h = go (p y) (eqb x y) refl refl a h (among_passes 
 
 -- a type's mark has bytes
 pub type_wide : (mark : ℕ) → is_type mark ≡ true → 0 < width mark
-unfolding is_type types integers all width among if◌then◌else◌
+unfolding is_type types integers all width among when◌then◌else◌
 type_wide mark h = ltb-true 0 (width mark) (among_passes (λ k. ltb 0 (width k)) types mark refl h)
 
 -- an integer's mark is a type's, and so has bytes
@@ -35,8 +35,8 @@ pub signed_integer : (mark : ℕ) → is_signed mark ≡ true → is_integer mar
 unfolding is_signed signed_integers is_integer integers all among
 signed_integer mark h = among_passes is_integer signed_integers mark refl h
 
-widest : (a b c d : Bool) → (if a then 1 else if b then 2 else if c then 4 else if d then 8 else 0) ≤ 8
-unfolding if◌then◌else◌
+widest : (a b c d : Bool) → (when a then 1 else when b then 2 else when c then 4 else when d then 8 else 0) ≤ 8
+unfolding when◌then◌else◌
 widest true b c d = omega arith
 widest false true c d = omega arith
 widest false false true d = omega arith
@@ -58,10 +58,10 @@ not_among l x c = go (among l x) refl
 
 -- a word stands for one of some marks exactly if it is that mark
 pub letter_among : (l : List ℕ) (word : ℕ) → all (ltb 0) l ≡ true → all (λ k. ltb k 256) l ≡ true → among l (letter_of word) ≡ among l word
-unfolding letter_of if◌then◌else◌
+unfolding letter_of when◌then◌else◌
 letter_among l word some few = go (ltb word 256) refl
   where
-    go : (b : Bool) → ltb word 256 ≡ b → among l (if b then word else 0) ≡ among l word
+    go : (b : Bool) → ltb word 256 ≡ b → among l (when b then word else 0) ≡ among l word
     go true e = refl
     go false e =
         not_among l 0 (λ h. false≢true (among_passes (ltb 0) l 0 some h))

@@ -1,7 +1,7 @@
 -- 01, "Addresses and values": the slot that a packed row and indexes, or a table row, a leaf row and indexes name, in any words.
 -- First 12 for rows that don't fit, then 10 for the indexes, then 12 for a slot not inside the message.
 use Rattle.std.specs.Prelude.{ℕ, zero, suc, ◌+◌, ◌-◌, ◌*◌, Bool, not, ◌&&◌, ◌||◌, List, [], ◌∷◌, length, leb, ltb, eqb}
-use Rattle.format.specs.Conditions.{if◌then◌else◌, among, between}
+use Rattle.format.specs.Conditions.{when◌then◌else◌, among, between}
 use Rattle.format.specs.Outcome.{Outcome, fault, done, ◌>>=◌, ◌>>◌, guard}
 use Rattle.format.specs.Limits.{dimension_limit}
 use Rattle.format.specs.Refusals.{not_there, rows_dont_fit}
@@ -70,7 +70,7 @@ module _ (ws : List ℕ) where
   dimensions_from zero container row = done []
   dimensions_from (suc fuel) container row =
       let stop = (row_at ws container).link in
-      if leb stop row then done [] else (do
+      when leb stop row then done [] else (do
         next ← along (child_of container is_dimension) stop row
         ds ← dimensions_from fuel container next
         done ((row_at ws row).count ∷ ds))
@@ -79,7 +79,7 @@ module _ (ws : List ℕ) where
   unfoldable pub dimensions : ℕ → ℕ → Outcome (List ℕ)
   dimensions container row =
       let c = row_at ws container in
-      if eqb c.order plain_count then done (c.count ∷ []) else (do
+      when eqb c.order plain_count then done (c.count ∷ []) else (do
         ds ← dimensions_from (length ws) container row
         guard (between 1 dimension_limit (length ds)) rows_dont_fit 0
         done ds)
@@ -90,11 +90,11 @@ module _ (ws : List ℕ) where
   seek leaf_row zero container row = fault rows_dont_fit 0
   seek leaf_row (suc fuel) container row = do
     let c = row_at ws container
-    here ← if is_schema c then along (child_of container is_key) c.link row else done row
+    here ← when is_schema c then along (child_of container is_key) c.link row else done row
     next ← along (child_of container is_member) c.link here
     let r = row_at ws here
-    if eqb here leaf_row then guard (is_leaf_row r) rows_dont_fit 0 >> done here else
-        if ltb here leaf_row && ltb leaf_row next then (do
+    when eqb here leaf_row then guard (is_leaf_row r) rows_dont_fit 0 >> done here else
+        when ltb here leaf_row && ltb leaf_row next then (do
           guard (not (is_leaf_row r)) rows_dont_fit 0
           _ ← seek leaf_row fuel here (here + 1)
           done here) else
@@ -130,5 +130,5 @@ module _ (ws : List ℕ) where
     let r = number_in t.order ds is
     let o = row_at ws leaf_row
     let f = row_at ws row_of_field
-    if eqb t.mark '[' then inside message_bytes o.mark (t.payload + r * (row_at ws (row + 1)).extent + o.payload) 0 o.extent else
+    when eqb t.mark '[' then inside message_bytes o.mark (t.payload + r * (row_at ws (row + 1)).extent + o.payload) 0 o.extent else
         inside message_bytes o.mark (t.payload + t.count * f.payload + r * f.extent + o.payload) f.payload o.extent

@@ -1,6 +1,6 @@
 -- The bytes of a message. Places count from 0.
 use Rattle.std.specs.Prelude.{ℕ, suc, ◌+◌, ◌*◌, Bool, List, [], ◌∷◌, length, get_or, take, drop, leb, ltb, eqb}
-use Rattle.format.specs.Conditions.{if◌then◌else◌}
+use Rattle.format.specs.Conditions.{when◌then◌else◌}
 use Rattle.format.specs.Outcome.{Outcome, done, ◌>>=◌, ◌>>◌, guard}
 use Rattle.format.specs.Refusals.{ends_too_early, not_allowed}
 use Rattle.format.specs.Marks.{'N'}
@@ -13,7 +13,7 @@ little (b ∷ bs) = b + 256 * little bs
 -- how many `N` the bytes begin with
 unfoldable pub leading_noops : List ℕ → ℕ
 leading_noops [] = 0
-leading_noops (b ∷ bs) = if eqb b 'N' then suc (leading_noops bs) else 0
+leading_noops (b ∷ bs) = when eqb b 'N' then suc (leading_noops bs) else 0
 
 -- n bytes from a place lie inside a message of so many bytes, in whole numbers
 unfoldable pub within : ℕ → ℕ → ℕ → Bool

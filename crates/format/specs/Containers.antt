@@ -1,6 +1,6 @@
 -- Packed arrays, tables, arrays and objects.
 use Rattle.std.specs.Prelude.{ℕ, ◌+◌, ◌-◌, ◌*◌, true, false, List, length, leb, eqb}
-use Rattle.format.specs.Conditions.{if◌then◌else◌}
+use Rattle.format.specs.Conditions.{when◌then◌else◌}
 use Rattle.format.specs.Outcome.{done, ◌>>=◌, ◌>>◌, guard}
 use Rattle.format.specs.Limits.{limit, record_limit}
 use Rattle.format.specs.Refusals.{not_allowed, over_limit}
@@ -95,7 +95,7 @@ module _ (m : List ℕ) (rows_lent : ℕ) where
   unfoldable pub typed : Opening → Reader
   typed opening at row = do
     type ← byte m (at + 2)
-    if eqb type left_brace then table opening at row else (do
+    when eqb type left_brace then table opening at row else (do
       guard (is_type type) not_allowed (at + 2)
       _ ← one_of m (eqb '#') (at + 3)
       typed_as opening type at row)
@@ -110,6 +110,6 @@ module _ (m : List ℕ) (rows_lent : ℕ) where
   container_by value opening at row = do
     row_left rows_lent at row
     b ← byte m (at + 1)
-    if eqb b '$' then typed opening at row else
-        if eqb b '#' then counted opening (spaced m (items opening value)) (at + 2) at row else
+    when eqb b '$' then typed opening at row else
+        when eqb b '#' then counted opening (spaced m (items opening value)) (at + 2) at row else
         plain opening (items opening value) at row

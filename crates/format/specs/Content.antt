@@ -1,6 +1,6 @@
 -- The content that goes with a mark: one rule for scalars, texts, packed arrays and tables.
 use Rattle.std.specs.Prelude.{ℕ, ◌+◌, Bool, true, List, [], ◌∷◌, leb, eqb}
-use Rattle.format.specs.Conditions.{if◌then◌else◌, all}
+use Rattle.format.specs.Conditions.{when◌then◌else◌, all}
 use Rattle.format.specs.Outcome.{Outcome, done, ◌>>=◌, ◌>>◌, guard}
 use Rattle.format.specs.Refusals.{wrong_content}
 use Rattle.format.specs.Marks.{is_boolean, 'C', 'H', 'S', 'T'}
@@ -12,10 +12,10 @@ use Rattle.format.specs.Bytes.{bytes, reach}
 -- text, high-precision number, char at most 127, boolean `T` or `F`; under another mark any bytes
 unfoldable pub is_content : ℕ → List ℕ → Bool
 is_content mark bs =
-    if eqb mark 'S' then is_text bs else
-    if eqb mark 'H' then is_number bs else
-    if eqb mark 'C' then all (λ b. leb b 127) bs else
-    if eqb mark 'T' then all is_boolean bs else true
+    when eqb mark 'S' then is_text bs else
+    when eqb mark 'H' then is_number bs else
+    when eqb mark 'C' then all (λ b. leb b 127) bs else
+    when eqb mark 'T' then all is_boolean bs else true
 
 module _ (m : List ℕ) where
   -- n bytes of content under a mark

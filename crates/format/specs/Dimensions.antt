@@ -1,6 +1,6 @@
 -- Counts and dimension vectors: what stands after a `#`.
 use Rattle.std.specs.Prelude.{ℕ, zero, suc, ◌+◌, Bool, not, ◌&&◌, List, eqb}
-use Rattle.format.specs.Conditions.{if◌then◌else◌, between}
+use Rattle.format.specs.Conditions.{when◌then◌else◌, between}
 use Rattle.format.specs.Outcome.{fault, done, Parsed, ◌>>=◌, ◌>>◌, guard}
 use Rattle.format.specs.Limits.{limit, dimension_limit}
 use Rattle.format.specs.Refusals.{wrong_integer}
@@ -55,7 +55,7 @@ module _ (m : List ℕ) (rows_lent : ℕ) where
   listed zero place at row = fault wrong_integer place
   listed (suc left) place at row = do
     b ← byte m at
-    if eqb b ']' then done (none, at + 1) else (marked ⨾ listed left place) at row
+    when eqb b ']' then done (none, at + 1) else (marked ⨾ listed left place) at row
 
   -- the number of dimensions, and so many
   unfoldable pub counted : ℕ → Reader → Reader
@@ -75,9 +75,9 @@ module _ (m : List ℕ) (rows_lent : ℕ) where
   unfoldable pub vector : ℕ → Reader
   vector place at row = do
     b ← byte m at
-    if eqb b ']' then fault wrong_integer place else
-        if eqb b '#' then counted place marked (at + 1) row else
-        if eqb b '$' then counted_bare place (at + 1) row else
+    when eqb b ']' then fault wrong_integer place else
+        when eqb b '#' then counted place marked (at + 1) row else
+        when eqb b '$' then counted_bare place (at + 1) row else
         (marked ⨾ listed dimension_limit place) at row
 
   -- a vector: first index slowest
@@ -103,6 +103,6 @@ module _ (m : List ℕ) (rows_lent : ℕ) where
   unfoldable pub shape : Bool → ℕ → ℕ → Parsed Shape
   shape may_wrap at row = do
     b ← byte m at
-    if not (eqb b '[') then plain at else (do
+    when not (eqb b '[') then plain at else (do
       c ← byte m (at + 1)
-      if eqb c '[' && may_wrap then fastest at row else slowest at row)
+      when eqb c '[' && may_wrap then fastest at row else slowest at row)

@@ -2,7 +2,7 @@
 use Rattle.std.specs.Prelude.{ℕ, zero, suc, ◌+◌, ◌*◌, ◌/◌, ◌%◌, ◌^◌, Bool, not, ◌&&◌, eqb, Float}
 use Rattle.std.specs.Float.{inf, binary32}
 use Rattle.std.specs.Float.Ieee.{odd, to_bits}
-use Rattle.format.specs.Conditions.{if◌then◌else◌}
+use Rattle.format.specs.Conditions.{when◌then◌else◌}
 
 -- a half's fields: sign, exponent and fraction
 unfoldable pub sign_field : ℕ → ℕ
@@ -25,10 +25,10 @@ is_half_nan h = eqb (exponent_field h) all_ones && not (eqb (fraction_field h) 0
 -- fraction with a one in front of its ten digits, times 2 ^ (exponent - 1 - 24)
 unfoldable pub half_value : Bool → ℕ → ℕ → Float
 half_value negative zero fraction = odd 11 negative fraction 0 24
-half_value negative (suc e) fraction = if eqb (suc e) all_ones then inf negative else odd 11 negative (2 ^ 10 + fraction) e 24
+half_value negative (suc e) fraction = when eqb (suc e) all_ones then inf negative else odd 11 negative (2 ^ 10 + fraction) e 24
 
 -- the bits of the single
 unfoldable pub single : ℕ → ℕ
 single h =
-    if is_half_nan h then sign_field h * 2 ^ 31 + 255 * 2 ^ 23 + fraction_field h * 2 ^ 13 else
+    when is_half_nan h then sign_field h * 2 ^ 31 + 255 * 2 ^ 23 + fraction_field h * 2 ^ 13 else
     to_bits binary32 (half_value (eqb (sign_field h) 1) (exponent_field h) (fraction_field h))

@@ -2,7 +2,7 @@
 -- with the smallest of `U u m`; arrays and objects counted and untyped; dimensions marked, in brackets; the rest unchanged. Request
 -- No. 1: so an extension's id keeps its mark.
 use Rattle.std.specs.Prelude.{ℕ, zero, suc, ◌/◌, ◌%◌, ◌&&◌, List, [], ◌∷◌, ◌++◌, length, leb, eqb}
-use Rattle.format.specs.Conditions.{if◌then◌else◌}
+use Rattle.format.specs.Conditions.{when◌then◌else◌}
 use Rattle.format.specs.Outcome.{Outcome, fault, done, ◌>>=◌, ◌>>◌, guard}
 use Rattle.format.specs.Limits.{limit}
 use Rattle.format.specs.Refusals.{output_too_long}
@@ -27,8 +27,8 @@ small_integer n = smallest n ∷ digits (width (smallest n)) n
 -- what stands after `#`: a plain count; or dimensions in brackets, in two where the first index is fastest
 unfoldable pub shape : ℕ → ℕ → List ℕ → List ℕ
 shape order n dims =
-    if eqb order plain_count then small_integer n else
-    if eqb order first_slowest then '[' ∷ dims ++ ']' ∷ [] else
+    when eqb order plain_count then small_integer n else
+    when eqb order first_slowest then '[' ∷ dims ++ ']' ∷ [] else
     '[' ∷ '[' ∷ dims ++ ']' ∷ ']' ∷ []
 
 -- a table: its layout's mark, its schema, its shape and its payload
@@ -58,7 +58,7 @@ module _ (m : List ℕ) where
   token object t under = opens brace ∷ '#' ∷ small_integer t.count ++ whole under
   token packed t under = opens bracket ∷ '$' ∷ t.mark ∷ '#' ∷ shape t.order t.count (whole under) ++ payload_of t
   token table t under = table_form t.mark under.first (shape t.order t.count under.rest) (payload_of t)
-  token leaf t under = t.mark ∷ (if eqb t.mark 'S' then small_integer t.extent else [])
+  token leaf t under = t.mark ∷ (when eqb t.mark 'S' then small_integer t.extent else [])
   token schema_record t under = opens brace ∷ whole under ++ closes brace ∷ []
   token fixed_array t under = opens bracket ∷ whole under ++ closes bracket ∷ []
   token dimension t under = small_integer t.count

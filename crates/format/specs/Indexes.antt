@@ -1,6 +1,6 @@
 -- Indexes and dimensions: how many elements there are, which indexes are in range, and their order in storage.
 use Rattle.std.specs.Prelude.{ℕ, zero, suc, ◌+◌, ◌*◌, Bool, true, false, ◌&&◌, List, [], ◌∷◌, ◌++◌, map, ltb, eqb}
-use Rattle.format.specs.Conditions.{if◌then◌else◌}
+use Rattle.format.specs.Conditions.{when◌then◌else◌}
 use Rattle.format.specs.Tokens.{first_fastest}
 
 -- the product of dimensions, in whole numbers
@@ -41,7 +41,7 @@ first_moving (d ∷ ds) = each (first_moving ds) (λ is. map (λ i. i ∷ is) (b
 
 -- in storage order
 unfoldable pub indexes : ℕ → List ℕ → List (List ℕ)
-indexes order ds = if eqb order first_fastest then first_moving ds else last_moving ds
+indexes order ds = when eqb order first_fastest then first_moving ds else last_moving ds
 
 -- the number, from 0, of indexes in storage order, by a formula
 unfoldable pub last_number : List ℕ → List ℕ → ℕ
@@ -55,4 +55,4 @@ first_number (d ∷ ds) [] = 0
 first_number (d ∷ ds) (i ∷ is) = i + d * first_number ds is
 
 unfoldable pub number_in : ℕ → List ℕ → List ℕ → ℕ
-number_in order ds is = if eqb order first_fastest then first_number ds is else last_number ds is
+number_in order ds is = when eqb order first_fastest then first_number ds is else last_number ds is

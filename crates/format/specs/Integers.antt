@@ -1,6 +1,6 @@
 -- Integers that are lengths, counts, dimensions and ids. In an integer: mark, end of message, sign, limit.
 use Rattle.std.specs.Prelude.{ℕ, ◌+◌, ◌*◌, ◌^◌, Bool, not, ◌&&◌, List, leb, ltb}
-use Rattle.format.specs.Conditions.{if◌then◌else◌}
+use Rattle.format.specs.Conditions.{when◌then◌else◌}
 use Rattle.format.specs.Outcome.{done, Parsed, ◌>>=◌, ◌>>◌, guard}
 use Rattle.format.specs.Limits.{limit}
 use Rattle.format.specs.Refusals.{over_limit, wrong_integer}
@@ -13,7 +13,7 @@ is_negative mark n = is_signed mark && leb (256 ^ width mark) (2 * n)
 
 -- the smallest of `U u m` that holds a number within the limits
 unfoldable pub smallest : ℕ → ℕ
-smallest n = if ltb n (256 ^ width 'U') then 'U' else if ltb n (256 ^ width 'u') then 'u' else 'm'
+smallest n = when ltb n (256 ^ width 'U') then 'U' else when ltb n (256 ^ width 'u') then 'u' else 'm'
 
 module _ (m : List ℕ) where
   -- the number under a mark, at most `highest`, whose bytes start at `start`; `place` is where it is refused

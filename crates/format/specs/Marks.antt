@@ -1,6 +1,6 @@
 -- The marks, and the width that goes with each. A mark is a byte: the code of its letter.
 use Rattle.std.specs.Prelude.{ℕ, Bool, true, false, ◌||◌, List, [], ◌∷◌, ◌++◌, ltb, eqb}
-use Rattle.format.specs.Conditions.{if◌then◌else◌, among}
+use Rattle.format.specs.Conditions.{when◌then◌else◌, among}
 
 abbrev pub 'B' : ℕ
 'B' = 0x42
@@ -138,15 +138,15 @@ is_boolean = among ('T' ∷ 'F' ∷ [])
 -- the bytes that go with a mark: said here, and used by all
 unfoldable pub width : ℕ → ℕ
 width mark =
-    if among ('i' ∷ 'U' ∷ 'C' ∷ 'B' ∷ []) mark then 1 else
-    if among ('I' ∷ 'u' ∷ 'h' ∷ []) mark then 2 else
-    if among ('l' ∷ 'm' ∷ 'd' ∷ []) mark then 4 else
-    if among ('L' ∷ 'M' ∷ 'D' ∷ []) mark then 8 else 0
+    when among ('i' ∷ 'U' ∷ 'C' ∷ 'B' ∷ []) mark then 1 else
+    when among ('I' ∷ 'u' ∷ 'h' ∷ []) mark then 2 else
+    when among ('l' ∷ 'm' ∷ 'd' ∷ []) mark then 4 else
+    when among ('L' ∷ 'M' ∷ 'D' ∷ []) mark then 8 else 0
 
 -- in a record `T` is 1 byte, and the other marks are as wide as ever
 unfoldable pub leaf_width : ℕ → ℕ
-leaf_width mark = if eqb mark 'T' then 1 else width mark
+leaf_width mark = when eqb mark 'T' then 1 else width mark
 
 -- the mark that a word stands for: 0, which is none, where it is no byte
 unfoldable pub letter_of : ℕ → ℕ
-letter_of word = if ltb word 256 then word else 0
+letter_of word = when ltb word 256 then word else 0

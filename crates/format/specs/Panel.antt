@@ -1,7 +1,7 @@
 -- 01, "The panel": what its three calls answer from the message only. Rows count as enough. Request
 -- No. 1: the edition is the new one.
 use Rattle.std.specs.Prelude.{ℕ, zero, suc, ◌+◌, ◌&&◌, List, [], ◌∷◌, ◌++◌, map, eqb}
-use Rattle.format.specs.Conditions.{if◌then◌else◌}
+use Rattle.format.specs.Conditions.{when◌then◌else◌}
 use Rattle.format.specs.Outcome.{Outcome, fault, done, number_of, place_of, ◌>>=◌}
 use Rattle.format.specs.Refusals.{not_there}
 use Rattle.format.specs.Tokens.{Token, table, is_kind, Forest, none, node, size, below_first}
@@ -21,7 +21,7 @@ pub record Table : Type 0 where
 unfoldable pub tables : ℕ → Forest → List Table
 tables n none = []
 tables n (node t under after) =
-    (if is_kind table t.kind then record { row = n; token = t; under = under } ∷ [] else tables (suc n) under)
+    (when is_kind table t.kind then record { row = n; token = t; under = under } ∷ [] else tables (suc n) under)
     ++ tables (suc n + size under) after
 
 -- the rows of the leaves of one record of a table, in schema order
@@ -38,7 +38,7 @@ pick (a ∷ l) (suc i) = pick l i
 unfoldable pub slot_for : ℕ → ℕ → List (Slot ℕ) → Outcome (Slot ℕ)
 slot_for leaf_row number [] = fault not_there 0
 slot_for leaf_row number (s ∷ ss) =
-    if eqb s.leaf_row leaf_row && eqb s.element number then done s else slot_for leaf_row number ss
+    when eqb s.leaf_row leaf_row && eqb s.element number then done s else slot_for leaf_row number ss
 
 -- number and place
 unfoldable pub number_and_place : List ℕ → ℕ × ℕ

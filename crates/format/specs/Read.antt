@@ -1,7 +1,7 @@
 -- Reading: a message, the number of rows lent and an edition's grammar, to the forest of its tokens or the first fault reached from left
 -- to right.
 use Rattle.std.specs.Prelude.{ℕ, zero, suc, ◌+◌, ◌&&◌, List, length, leb, eqb}
-use Rattle.format.specs.Conditions.{if◌then◌else◌}
+use Rattle.format.specs.Conditions.{when◌then◌else◌}
 use Rattle.format.specs.Outcome.{Outcome, fault, done, ◌>>=◌, ◌>>◌, guard}
 use Rattle.format.specs.Limits.{limit, value_levels}
 use Rattle.format.specs.Refusals.{message_too_long, not_allowed, too_deep, bytes_after}
@@ -20,12 +20,12 @@ module _ (m : List ℕ) (rows_lent : ℕ) (grammar : Grammar) where
   unfoldable pub value_by : (Opening → Reader) → Reader
   value_by nested at row = do
     mark ← byte m at
-    if is_scalar mark then scalar m rows_lent mark (at + 1) at row else
-        if eqb mark 'S' then text m rows_lent kind_of_text 'S' at row else
-        if eqb mark 'H' then text m rows_lent high_precision 'H' at row else
-        if eqb mark '[' then nested bracket at row else
-        if eqb mark left_brace then nested brace at row else
-        if grammar.extensions && eqb mark 'E' then extension m rows_lent at row else
+    when is_scalar mark then scalar m rows_lent mark (at + 1) at row else
+        when eqb mark 'S' then text m rows_lent kind_of_text 'S' at row else
+        when eqb mark 'H' then text m rows_lent high_precision 'H' at row else
+        when eqb mark '[' then nested bracket at row else
+        when eqb mark left_brace then nested brace at row else
+        when grammar.extensions && eqb mark 'E' then extension m rows_lent at row else
         fault not_allowed at
 
   -- a container, with so many levels of value nesting left

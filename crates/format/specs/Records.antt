@@ -1,11 +1,11 @@
 -- How a record is laid out: widths and offsets of the members of a schema.
 use Rattle.std.specs.Prelude.{ℕ, ◌+◌}
-use Rattle.format.specs.Conditions.{if◌then◌else◌}
+use Rattle.format.specs.Conditions.{when◌then◌else◌}
 use Rattle.format.specs.Tokens.{Token, key, is_kind, Forest, none, node}
 
 -- how many bytes of a record a token takes: a key takes none
 unfoldable pub member_width : Token → ℕ
-member_width t = if is_kind key t.kind then 0 else t.extent
+member_width t = when is_kind key t.kind then 0 else t.extent
 
 -- how wide members are together
 unfoldable pub total_width : Forest → ℕ
@@ -29,5 +29,5 @@ at_offset offset t =
 unfoldable pub placed : ℕ → Forest → Forest
 placed offset none = none
 placed offset (node t below after) =
-    if is_kind key t.kind then node t below (placed offset after) else
+    when is_kind key t.kind then node t below (placed offset after) else
     node (at_offset offset t) (placed offset below) (placed (offset + t.extent) after)

@@ -2,7 +2,7 @@
 -- scalars and the payloads of kinds 7 and 8. Request No. 1: of an extension its id, the id's mark and its payload.
 -- Request No. 8: words 8 and 9 count in every row.
 use Rattle.std.specs.Prelude.{ℕ, suc, ◌≡◌, Bool, List, [], ◌∷◌, map, eqb}
-use Rattle.format.specs.Conditions.{if◌then◌else◌, among}
+use Rattle.format.specs.Conditions.{when◌then◌else◌, among}
 use Rattle.format.specs.Tokens.{kind_number, scalar, text, high_precision, key, array, object, packed, table, leaf, schema_record, fixed_array, dimension, extension}
 use Rattle.format.specs.Rows.{Row, layout}
 use Rattle.format.specs.Bytes.{bytes}
@@ -11,15 +11,15 @@ use Rattle.format.specs.Extensions.{id_bytes}
 -- the words that may differ: 2, 3 and 4 of arrays and objects, 2 of kinds 9 to 11, 1 to 4 of dimensions, 2 and 3 of every other
 unfoldable pub free : ℕ → List ℕ
 free kind =
-    if among (kind_number array ∷ kind_number object ∷ []) kind then 2 ∷ 3 ∷ 4 ∷ [] else
-    if among (kind_number leaf ∷ kind_number schema_record ∷ kind_number fixed_array ∷ []) kind then 2 ∷ [] else
-    if eqb kind (kind_number dimension) then 1 ∷ 2 ∷ 3 ∷ 4 ∷ [] else
+    when among (kind_number array ∷ kind_number object ∷ []) kind then 2 ∷ 3 ∷ 4 ∷ [] else
+    when among (kind_number leaf ∷ kind_number schema_record ∷ kind_number fixed_array ∷ []) kind then 2 ∷ [] else
+    when eqb kind (kind_number dimension) then 1 ∷ 2 ∷ 3 ∷ 4 ∷ [] else
     2 ∷ 3 ∷ []
 
 -- words from the k-th on, with 0 for those that may differ
 unfoldable pub kept : List ℕ → ℕ → List ℕ → List ℕ
 kept differ k [] = []
-kept differ k (w ∷ ws) = (if among differ k then 0 else w) ∷ kept differ (suc k) ws
+kept differ k (w ∷ ws) = (when among differ k then 0 else w) ∷ kept differ (suc k) ws
 
 -- the kinds whose payload's bytes count
 unfoldable pub has_bytes : ℕ → Bool
@@ -33,8 +33,8 @@ has_id kind = eqb kind (kind_number extension)
 unfoldable pub row_meaning : List ℕ → Row → List ℕ × List ℕ × List ℕ
 row_meaning m r = (
   kept (free r.kind) 0 (layout r),
-  if has_bytes r.kind then bytes m r.payload r.extent else [],
-  if has_id r.kind then id_bytes m r.first else [],
+  when has_bytes r.kind then bytes m r.payload r.extent else [],
+  when has_id r.kind then id_bytes m r.first else [],
 )
 
 -- the rows of the message m and those of the message n have the same meaning

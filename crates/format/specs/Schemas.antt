@@ -1,6 +1,6 @@
 -- Schemas: the leaves, records and fixed arrays of a table.
 use Rattle.std.specs.Prelude.{ℕ, zero, suc, ◌+◌, not, List, length, eqb}
-use Rattle.format.specs.Conditions.{if◌then◌else◌}
+use Rattle.format.specs.Conditions.{when◌then◌else◌}
 use Rattle.format.specs.Outcome.{fault, done, ◌>>=◌, ◌>>◌, guard}
 use Rattle.format.specs.Limits.{schema_levels}
 use Rattle.format.specs.Refusals.{not_allowed, too_deep, not_built}
@@ -68,11 +68,11 @@ module _ (m : List ℕ) (rows_lent : ℕ) where
   unfoldable pub kind_by : (Opening → Reader) → Reader
   kind_by nested at row = do
     mark ← byte m at
-    if is_plain_leaf mark then plain_leaf mark at row else
-        if eqb mark 'S' then text_leaf at row else
-        if eqb mark 'H' then fault not_built at else
-        if eqb mark '[' then nested bracket at row else
-        if eqb mark left_brace then nested brace at row else
+    when is_plain_leaf mark then plain_leaf mark at row else
+        when eqb mark 'S' then text_leaf at row else
+        when eqb mark 'H' then fault not_built at else
+        when eqb mark '[' then nested bracket at row else
+        when eqb mark left_brace then nested brace at row else
         fault not_allowed at
 
   -- a schema or a fixed array, given what reads a kind in it

@@ -1,6 +1,6 @@
 -- What reads tokens, and the ways to go on from one to the next. A reader starts at a place of the message and at a row.
 use Rattle.std.specs.Prelude.{ℕ, zero, suc, ◌+◌, List, length, ltb, eqb}
-use Rattle.format.specs.Conditions.{if◌then◌else◌}
+use Rattle.format.specs.Conditions.{when◌then◌else◌}
 use Rattle.format.specs.Outcome.{Outcome, fault, done, Parsed, ◌>>=◌, guard}
 use Rattle.format.specs.Refusals.{ends_too_early, no_row_left}
 use Rattle.format.specs.Tokens.{Forest, none, size, ◌⊕◌}
@@ -33,7 +33,7 @@ module _ (m : List ℕ) where
   until zero gap closing item at row = fault ends_too_early (length m)
   until (suc fuel) gap closing item at row = do
     b ← byte m (gap at)
-    if eqb b closing then done (none, gap at) else (item ⨾ until fuel gap closing item) (gap at) row
+    when eqb b closing then done (none, gap at) else (item ⨾ until fuel gap closing item) (gap at) row
 
   -- one that may have `N` before it
   unfoldable pub spaced : Reader → Reader

@@ -1,7 +1,7 @@
 -- Storage order: a payload cut into slots, from its first byte without gaps. Elements and records are given in their order, each
 -- by what names it: its number, or its indexes.
 use Rattle.std.specs.Prelude.{ℕ, suc, ◌+◌, ◌*◌, List, [], ◌∷◌, ◌++◌, length, eqb}
-use Rattle.format.specs.Conditions.{if◌then◌else◌}
+use Rattle.format.specs.Conditions.{when◌then◌else◌}
 use Rattle.format.specs.Marks.{Opening, bracket, brace, width, '['}
 use Rattle.format.specs.Tokens.{Token, packed, table, leaf, is_kind, plain_count, Forest, none, node, size, below_first, after_first, counts}
 use Rattle.format.specs.Records.{member_width, total_width}
@@ -34,7 +34,7 @@ elements row mark l =
 unfoldable pub leaves : {A : Type 0} → ℕ → Forest → A → ℕ → List (Slot A)
 leaves n none a at = []
 leaves n (node t below after) a at =
-    (if is_kind leaf t.kind then record { leaf_row = n; element = a; mark = t.mark; offset = at; wide = t.extent } ∷ [] else
+    (when is_kind leaf t.kind then record { leaf_row = n; element = a; mark = t.mark; offset = at; wide = t.extent } ∷ [] else
     leaves (suc n) below a at)
     ++ leaves (suc n + size below) after a (at + member_width t)
 
@@ -56,19 +56,19 @@ records brace n members l = by_columns n members l 0
 
 -- a table's layout by its mark: 91 by rows, 123 by columns
 unfoldable pub layout_of : ℕ → Opening
-layout_of mark = if eqb mark '[' then bracket else brace
+layout_of mark = when eqb mark '[' then bracket else brace
 
 -- the slots of the token at this row, given those below it and its elements or records: other kinds than 7 and 8 have none
 unfoldable pub slots_of : {A : Type 0} → ℕ → Token → Forest → List A → List (Slot A)
 slots_of row t under l =
-    if is_kind packed t.kind then elements row t.mark l else
-    if is_kind table t.kind then records (layout_of t.mark) (member_row row) (below_first under) l else []
+    when is_kind packed t.kind then elements row t.mark l else
+    when is_kind table t.kind then records (layout_of t.mark) (member_row row) (below_first under) l else []
 
 -- what its indexes are for: word 5 for a plain count, else its dimensions, which in a table stand after the schema
 unfoldable pub dimensions_of : Token → Forest → List ℕ
 dimensions_of t under =
-    if eqb t.order plain_count then t.count ∷ [] else
-    if is_kind table t.kind then counts (after_first under) else counts under
+    when eqb t.order plain_count then t.count ∷ [] else
+    when is_kind table t.kind then counts (after_first under) else counts under
 
 -- its slots in storage order, each with its address: leaf row and indexes
 unfoldable pub storage : ℕ → Token → Forest → List (Slot (List ℕ))

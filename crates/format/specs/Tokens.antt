@@ -1,6 +1,6 @@
 -- The tokens of a message, as a forest: reading gives it, and `Rows` lays it out.
 use Rattle.std.specs.Prelude.{ℕ, suc, ◌+◌, Bool, List, [], ◌∷◌, eqb}
-use Rattle.format.specs.Conditions.{if◌then◌else◌}
+use Rattle.format.specs.Conditions.{when◌then◌else◌}
 
 -- the kinds of a token, and the number that each has in the rows
 pub data Kind : Type 0 where
@@ -82,7 +82,7 @@ is_kind k l = eqb (kind_number k) (kind_number l)
 -- how many members: a key goes with the member after it, so pairs and fields count once
 unfoldable pub members : Forest → ℕ
 members none = 0
-members (node t below after) = (if is_kind key t.kind then 0 else 1) + members after
+members (node t below after) = (when is_kind key t.kind then 0 else 1) + members after
 
 -- the counts of tokens that stand side by side: of dimensions, their values
 unfoldable pub counts : Forest → List ℕ

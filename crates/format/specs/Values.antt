@@ -1,6 +1,6 @@
 -- Scalar values, at a row of kind 1 or a slot. Singles and doubles are given by their bits.
 use Rattle.std.specs.Prelude.{ℕ, suc, ◌-◌, ◌^◌, Bool, ◌&&◌, List, length, get_or, ltb, eqb, ℤ, pos, negsuc}
-use Rattle.format.specs.Conditions.{if◌then◌else◌}
+use Rattle.format.specs.Conditions.{when◌then◌else◌}
 use Rattle.format.specs.Outcome.{Outcome, done, ◌>>=◌, ◌>>◌, guard}
 use Rattle.format.specs.Refusals.{rows_dont_fit}
 use Rattle.format.specs.Marks.{is_integer, is_signed, is_scalar, is_boolean, width, leaf_width, 'B', 'C', 'D', 'T', 'd', 'h'}
@@ -25,19 +25,19 @@ pub record Scalar : Type 0 where
 
 -- n under a signed mark, in two's complement
 unfoldable pub twos_complement : ℕ → ℕ → ℤ
-twos_complement mark n = if is_negative mark n then negsuc (256 ^ width mark - suc n) else pos n
+twos_complement mark n = when is_negative mark n then negsuc (256 ^ width mark - suc n) else pos n
 
 -- the value of bytes under a mark. A boolean's letter is its byte or, where it carries nothing, its mark
 unfoldable pub value_of : ℕ → List ℕ → Value
 value_of mark bs =
-    if is_signed mark then signed (twos_complement mark (little bs)) else
-    if is_integer mark then unsigned (little bs) else
-    if eqb mark 'h' then single (Half.single (little bs)) else
-    if eqb mark 'd' then single (little bs) else
-    if eqb mark 'D' then double (little bs) else
-    if eqb mark 'C' then char (little bs) else
-    if eqb mark 'B' then byte (little bs) else
-    if is_boolean mark then boolean (eqb (get_or bs 0 mark) 'T') else null
+    when is_signed mark then signed (twos_complement mark (little bs)) else
+    when is_integer mark then unsigned (little bs) else
+    when eqb mark 'h' then single (Half.single (little bs)) else
+    when eqb mark 'd' then single (little bs) else
+    when eqb mark 'D' then double (little bs) else
+    when eqb mark 'C' then char (little bs) else
+    when eqb mark 'B' then byte (little bs) else
+    when is_boolean mark then boolean (eqb (get_or bs 0 mark) 'T') else null
 
 module _ (m : List ℕ) where
   -- a scalar of this kind, whose mark asks for `due` bytes: mark, length, message's end, char or boolean

@@ -7,7 +7,7 @@ use native.Mathlib.Numerals.{sub-one}
 use lib.ListN.{length, get_or}
 use borrow.Author.Tests.{lt-ltb, le-ltb, eq-eqb, ne_eqb}
 use Rattle.format.specs.Grammars.{Grammar}
-use Rattle.format.specs.Conditions.{if◌then◌else◌}
+use Rattle.format.specs.Conditions.{when◌then◌else◌}
 use Rattle.format.specs.Outcome.{fault, done, ◌>>=◌, ◌>>◌, guard}
 use Rattle.format.specs.Refusals.{ends_too_early, too_deep, no_row_left}
 use Rattle.format.specs.Marks.{Opening, closes, '#', '$'}
@@ -43,17 +43,17 @@ module _ (m : List ℕ) (lent : ℕ) (grammar : Grammar) (at row : ℕ) (o : Ope
 
       module _ (there : at + 1 < length m) where
         pub nested_typed : get_or m (at + 1) 0 ≡ '$' → nested m lent grammar levels o at row ≡ typed m lent o at row
-        unfolding container_by row_left byte guard ◌>>◌ ◌>>=◌ if◌then◌else◌
+        unfolding container_by row_left byte guard ◌>>◌ ◌>>=◌ when◌then◌else◌
         nested_typed e = by_container levels deep ∙ rw (lt-ltb _ _ left, lt-ltb _ _ there, eq-eqb _ _ e)
 
         pub nested_plain : (get_or m (at + 1) 0 ≡ '$' → ⊥) → (get_or m (at + 1) 0 ≡ '#' → ⊥)
             → nested m lent grammar levels o at row ≡ closed o at (at + 1) 1 (until m (length m) (skip m) (closes o) (member_of m lent grammar (levels - 1) o) (at + 1) (row + 1))
-        unfolding container_by row_left byte guard ◌>>◌ ◌>>=◌ if◌then◌else◌ plain closed member_of
+        unfolding container_by row_left byte guard ◌>>◌ ◌>>=◌ when◌then◌else◌ plain closed member_of
         nested_plain e q = by_container levels deep ∙ rw (lt-ltb _ _ left, lt-ltb _ _ there, ne_eqb _ _ e, ne_eqb _ _ q)
 
         module _ (not-typed : get_or m (at + 1) 0 ≡ '$' → ⊥) (count : get_or m (at + 1) 0 ≡ '#') where
           by_count : nested m lent grammar levels o at row ≡ counted m lent o (spaced m (items m lent o (value_by m lent grammar (nested m lent grammar (levels - 1))))) (at + 2) at row
-          unfolding container_by row_left byte guard ◌>>◌ ◌>>=◌ if◌then◌else◌
+          unfolding container_by row_left byte guard ◌>>◌ ◌>>=◌ when◌then◌else◌
           by_count = by_container levels deep ∙ rw (lt-ltb _ _ left, lt-ltb _ _ there, ne_eqb _ _ not-typed, eq-eqb _ _ count)
 
           pub nested_count_fault : (n p : ℕ) → integer m (at + 2) ≡ fault n p → nested m lent grammar levels o at row ≡ fault n p

@@ -7,7 +7,7 @@ use lib.ListN.{length, get_or}
 use lib.Dec.{eqb}
 use borrow.Author.Tests.{lt-ltb, le-ltb}
 use Rattle.format.specs.Grammars.{Grammar}
-use Rattle.format.specs.Conditions.{if◌then◌else◌}
+use Rattle.format.specs.Conditions.{when◌then◌else◌}
 use Rattle.format.specs.Outcome.{Parsed, fault, ◌>>=◌, ◌>>◌, guard}
 use Rattle.format.specs.Refusals.{ends_too_early, not_allowed}
 use Rattle.format.specs.Marks as Marks
@@ -37,9 +37,9 @@ module _ (m : List ℕ) (lent : ℕ) (grammar : Grammar) (nested : Opening → R
   value_on other = fault not_allowed at
 
   by_tests : (a b c d e f : Bool)
-      → (if a then value_on scalar else if b then value_on text else if c then value_on high_precision else if d then value_on opens_bracket else if e then value_on opens_brace else if f then value_on extension else value_on other)
-      ≡ value_on (if a then scalar else if b then text else if c then high_precision else if d then opens_bracket else if e then opens_brace else if f then extension else other)
-  unfolding if◌then◌else◌
+      → (when a then value_on scalar else when b then value_on text else when c then value_on high_precision else when d then value_on opens_bracket else when e then value_on opens_brace else when f then value_on extension else value_on other)
+      ≡ value_on (when a then scalar else when b then text else when c then high_precision else when d then opens_bracket else when e then opens_brace else when f then extension else other)
+  unfolding when◌then◌else◌
   by_tests true b c d e f = refl
   by_tests false true c d e f = refl
   by_tests false false true d e f = refl

@@ -1,7 +1,7 @@
 -- What the answers of the reader's items stand for.
 use Rattle.std.specs.Prelude.{ℕ, ◌+◌, ◌≤◌, ◌<◌, ◌≡◌, ◌&&◌, List, eqb}
 use Rattle.format.specs.Grammars.{Grammar}
-use Rattle.format.specs.Conditions.{if◌then◌else◌}
+use Rattle.format.specs.Conditions.{when◌then◌else◌}
 use Rattle.format.specs.Outcome.{Parsed, fault}
 use Rattle.format.specs.Marks.{Opening, opening_of, is_scalar, 'E', 'H', 'S', '[', left_brace}
 use Rattle.format.specs.Tokens.{Forest, size, members}
@@ -23,12 +23,12 @@ pub data Begins : Type 0 where
 -- the tests of `Read.value_by`, in its order
 unfoldable pub class : Grammar → ℕ → Begins
 class grammar mark =
-    if is_scalar mark then scalar else
-    if eqb mark 'S' then text else
-    if eqb mark 'H' then high_precision else
-    if eqb mark '[' then opens_bracket else
-    if eqb mark left_brace then opens_brace else
-    if grammar.extensions && eqb mark 'E' then extension else other
+    when is_scalar mark then scalar else
+    when eqb mark 'S' then text else
+    when eqb mark 'H' then high_precision else
+    when eqb mark '[' then opens_bracket else
+    when eqb mark left_brace then opens_brace else
+    when grammar.extensions && eqb mark 'E' then extension else other
 
 abbrev pub class_of : Class → Begins
 class_of Scalar = scalar

@@ -7,7 +7,7 @@ use native.Mathlib.Omega.{arith}
 use lib.ListN.{length, get_or}
 use lib.Dec.{eqb}
 use borrow.Author.Tests.{lt-ltb, le-ltb, eq-eqb, ne_eqb}
-use Rattle.format.specs.Conditions.{if◌then◌else◌}
+use Rattle.format.specs.Conditions.{when◌then◌else◌}
 use Rattle.format.specs.Outcome.{fault, done, ◌>>=◌, ◌>>◌, guard}
 use Rattle.format.specs.Limits.{schema_levels}
 use Rattle.format.specs.Refusals.{ends_too_early, not_allowed, too_deep, no_row_left, not_built}
@@ -23,8 +23,8 @@ use Rattle.tokens.proofs.Sofar.{seq_fault}
 use Rattle.kinds.specs.Answers.{kind_at, field_at, array_at, record_at}
 
 -- a plain leaf has eight bytes at most
-few : (b : Bool) (w : ℕ) → w ≤ 8 → (if b then 1 else w) ≤ 8
-unfolding if◌then◌else◌
+few : (b : Bool) (w : ℕ) → w ≤ 8 → (when b then 1 else w) ≤ 8
+unfolding when◌then◌else◌
 few true w h = omega arith
 few false w h = h
 
@@ -67,31 +67,31 @@ module _ (m : List ℕ) (lent at row : ℕ) where
 
   module _ (inner : Opening → Reader) (mark : ℕ) (there : at < length m) (is : get_or m at 0 ≡ mark) where
     pub kind_plain : is_plain_leaf mark ≡ true → kind_by m lent inner at row ≡ plain_leaf m lent mark at row
-    unfolding kind_by byte guard ◌>>◌ ◌>>=◌ if◌then◌else◌
+    unfolding kind_by byte guard ◌>>◌ ◌>>=◌ when◌then◌else◌
     kind_plain e = rw (lt-ltb _ _ there, is, e)
 
     module _ (unplain : is_plain_leaf mark ≡ false) where
       pub kind_text : mark ≡ 'S' → kind_by m lent inner at row ≡ text_leaf m lent at row
-      unfolding kind_by byte guard ◌>>◌ ◌>>=◌ if◌then◌else◌
+      unfolding kind_by byte guard ◌>>◌ ◌>>=◌ when◌then◌else◌
       kind_text e = rw (lt-ltb _ _ there, is, unplain, eq-eqb _ _ e)
 
       module _ (no_text : mark ≡ 'S' → ⊥) where
         pub kind_high : mark ≡ 'H' → kind_by m lent inner at row ≡ fault not_built at
-        unfolding kind_by byte guard ◌>>◌ ◌>>=◌ if◌then◌else◌
+        unfolding kind_by byte guard ◌>>◌ ◌>>=◌ when◌then◌else◌
         kind_high e = rw (lt-ltb _ _ there, is, unplain, ne_eqb _ _ no_text, eq-eqb _ _ e)
 
         module _ (not-high : mark ≡ 'H' → ⊥) where
           pub kind_array : mark ≡ '[' → kind_by m lent inner at row ≡ inner bracket at row
-          unfolding kind_by byte guard ◌>>◌ ◌>>=◌ if◌then◌else◌
+          unfolding kind_by byte guard ◌>>◌ ◌>>=◌ when◌then◌else◌
           kind_array e = rw (lt-ltb _ _ there, is, unplain, ne_eqb _ _ no_text, ne_eqb _ _ not-high, eq-eqb _ _ e)
 
           module _ (no-array : mark ≡ '[' → ⊥) where
             pub kind_record : mark ≡ left_brace → kind_by m lent inner at row ≡ inner brace at row
-            unfolding kind_by byte guard ◌>>◌ ◌>>=◌ if◌then◌else◌
+            unfolding kind_by byte guard ◌>>◌ ◌>>=◌ when◌then◌else◌
             kind_record e = rw (lt-ltb _ _ there, is, unplain, ne_eqb _ _ no_text, ne_eqb _ _ not-high, ne_eqb _ _ no-array, eq-eqb _ _ e)
 
             pub kind_other : (mark ≡ left_brace → ⊥) → kind_by m lent inner at row ≡ fault not_allowed at
-            unfolding kind_by byte guard ◌>>◌ ◌>>=◌ if◌then◌else◌
+            unfolding kind_by byte guard ◌>>◌ ◌>>=◌ when◌then◌else◌
             kind_other e = rw (lt-ltb _ _ there, is, unplain, ne_eqb _ _ no_text, ne_eqb _ _ not-high, ne_eqb _ _ no-array, ne_eqb _ _ e)
 
   -- ---- a record or a fixed array: depth, then row

@@ -9,7 +9,7 @@ use lib.Dec.{leb}
 use borrow.Author.Tests.{leb-true, leb-false, le-leb, lt-leb}
 use Rattle.format.specs.Outcome.{Parsed, done}
 use Rattle.format.specs.Limits.{record_limit}
-use Rattle.format.specs.Conditions.{if◌then◌else◌}
+use Rattle.format.specs.Conditions.{when◌then◌else◌}
 use Rattle.format.specs.Marks.{Opening, opens}
 use Rattle.format.specs.Tokens.{Kind, key, leaf as kind_of_leaf, uncounted, Forest, none, node, size, ◌⊕◌, is_kind, members}
 use Rattle.format.specs.Records.{member_width, total_width, at_offset, placed}
@@ -25,25 +25,25 @@ use Rattle.kinds.specs.Answers.{over, group_at, Read}
 -- ---- one forest and then another
 
 pub placed_append : (n : ℕ) (f g : Forest) → placed n (f ⊕ g) ≡ placed n f ⊕ placed (n + total_width f) g
-unfolding placed total_width member_width ◌⊕◌ if◌then◌else◌
+unfolding placed total_width member_width ◌⊕◌ when◌then◌else◌
 placed_append n none g = rw add-zero
 placed_append n (node t below after) g = go (is_kind key t.kind) (placed_append n after g) (placed_append (n + t.extent) after g)
   where
     go : (b : Bool) → placed n (after ⊕ g) ≡ placed n after ⊕ placed (n + total_width after) g
         → placed (n + t.extent) (after ⊕ g) ≡ placed (n + t.extent) after ⊕ placed (n + t.extent + total_width after) g
-        → (if b then node t below (placed n (after ⊕ g)) else node (at_offset n t) (placed n below) (placed (n + t.extent) (after ⊕ g)))
-        ≡ (if b then node t below (placed n after) else node (at_offset n t) (placed n below) (placed (n + t.extent) after)) ⊕ placed (n + ((if b then 0 else t.extent) + total_width after)) g
+        → (when b then node t below (placed n (after ⊕ g)) else node (at_offset n t) (placed n below) (placed (n + t.extent) (after ⊕ g)))
+        ≡ (when b then node t below (placed n after) else node (at_offset n t) (placed n below) (placed (n + t.extent) after)) ⊕ placed (n + ((when b then 0 else t.extent) + total_width after)) g
     go true e f = let z : 0 + total_width after ≡ total_width after = omega arith in rw (e, z)
     go false e f = let z : n + (t.extent + total_width after) ≡ n + t.extent + total_width after = omega arith in rw (f, z)
 
 -- offsets change no member
 pub members-placed : (n : ℕ) (f : Forest) → members (placed n f) ≡ members f
-unfolding placed members at_offset if◌then◌else◌
+unfolding placed members at_offset when◌then◌else◌
 members-placed n none = refl
 members-placed n (node t below after) = go (is_kind key t.kind) refl (members-placed n after) (members-placed (n + t.extent) after)
   where
     go : (b : Bool) → is_kind key t.kind ≡ b → members (placed n after) ≡ members after → members (placed (n + t.extent) after) ≡ members after
-        → members (if b then node t below (placed n after) else node (at_offset n t) (placed n below) (placed (n + t.extent) after)) ≡ (if b then 0 else 1) + members after
+        → members (when b then node t below (placed n after) else node (at_offset n t) (placed n below) (placed (n + t.extent) after)) ≡ (when b then 0 else 1) + members after
     go true k e f = rw (k, e)
     go false k e f = rw (k, f)
 
@@ -54,20 +54,20 @@ lay-placed ws row n a f g = rw (placed_append n f g, ← size-placed n f) (lay_f
 
 -- ---- keys: they have no width, and no offset
 
-key_step : (b : Bool) (n : ℕ) → (if b then 0 else 1) + n ≡ 0 → (b ≡ true) × (n ≡ 0)
-unfolding if◌then◌else◌
+key_step : (b : Bool) (n : ℕ) → (when b then 0 else 1) + n ≡ 0 → (b ≡ true) × (n ≡ 0)
+unfolding when◌then◌else◌
 key_step true n e = (refl, omega arith)
 key_step false n e = absurd (omega arith)
 
 pub keys_width : (f : Forest) → members f ≡ 0 → total_width f ≡ 0
-unfolding members total_width member_width if◌then◌else◌
+unfolding members total_width member_width when◌then◌else◌
 keys_width none e = refl
 keys_width (node t below after) e =
     let s = key_step (is_kind key t.kind) (members after) e in
     rw s.0 (omega (arith, keys_width after s.1))
 
 pub keys_placed : (n : ℕ) (f : Forest) → members f ≡ 0 → placed n f ≡ f
-unfolding members placed if◌then◌else◌
+unfolding members placed when◌then◌else◌
 keys_placed n none e = refl
 keys_placed n (node t below after) e =
     let s = key_step (is_kind key t.kind) (members after) e in
@@ -81,11 +81,11 @@ module _ (kind : Kind) (o : Opening) (at : ℕ) (f : Forest) where
   group-size = omega arith
 
   pub group-members : is_kind key kind ≡ false → members (group kind o at f) ≡ 1
-  unfolding group members if◌then◌else◌
+  unfolding group members when◌then◌else◌
   group-members k = rw k
 
   pub group_width : is_kind key kind ≡ false → total_width (group kind o at f) ≡ total_width f
-  unfolding group total_width member_width if◌then◌else◌
+  unfolding group total_width member_width when◌then◌else◌
   group_width k = rw (k, add-zero)
 
 -- its row, stored after those of its members
@@ -93,7 +93,7 @@ pub group_lies : (kind : Kind) (o : Opening) (at row offset link : ℕ) (a : Anc
     → store (lay ws (row + 1) (rows (row + 1) (held_by row a) (placed offset f))) row
     (row_of (group_at kind (opens o) at offset (total_width f) (members f)) link a)
     ≡ lay ws row (rows row a (placed offset (group kind o at f)))
-unfolding group placed at_offset if◌then◌else◌ rows
+unfolding group placed at_offset when◌then◌else◌ rows
 group_lies kind o at row offset link a f ws k e =
     let p : row + 1 ≡ suc row = omega arith in
     rw (k, e, p, ← size-placed offset f, append-nil (rows (suc row) (held_by row a) (placed offset f))) (lay_front ws row _ (rows (suc row) (held_by row a) (placed offset f)))
@@ -103,7 +103,7 @@ group_lies kind o at row offset link a f ws k e =
 pub read_leaf : (mark at w next row offset offset' : ℕ) (ancestry : Ancestry) (before now : List ℕ) → offset' ≡ min (offset + w) over
     → now ≡ store before row (row_of (uncounted kind_of_leaf mark at offset w) (row + 1) ancestry)
     → Read (done (leaf mark at w, next)) row offset ancestry before now next (row + 1) offset'
-unfolding leaf members total_width member_width placed at_offset is_kind if◌then◌else◌ size rows lay
+unfolding leaf members total_width member_width placed at_offset is_kind when◌then◌else◌ size rows lay
 read_leaf mark at w next row offset offset' ancestry before now e h =
     let q : suc row + 0 ≡ row + 1 = omega arith in
     record { forest = leaf mark at w; read = refl; counted = refl; took = omega arith; wide = e ∙ ap (λ n. min (offset + n) over) (omega arith); lie = λ _. rw q h }

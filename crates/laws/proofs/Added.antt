@@ -11,7 +11,7 @@ use lib.Seq.{take-append-le, drop-append-le}
 use lib.Dec.{ltb, eqb}
 use borrow.Author.Tests.{ltb-true, ltb-false, leb-true, lt-ltb, le-leb, eqb-false, ne_eqb}
 use Rattle.format.specs.Grammars.{Grammar}
-use Rattle.format.specs.Conditions.{if◌then◌else◌}
+use Rattle.format.specs.Conditions.{when◌then◌else◌}
 use Rattle.format.specs.Outcome.{Outcome, fault, done, ◌>>◌, guard}
 use Rattle.format.specs.Refusals.{ends_too_early, not_allowed, no_row_left, bytes_after}
 use Rattle.format.specs.Marks.{width, 'E', 'N'}
@@ -31,12 +31,12 @@ use Rattle.laws.proofs.Rules.{Relation, Rules}
 use Rattle.laws.proofs.Related.{value_related}
 
 noops_append : (l x : List ℕ) → leading_noops l < length l → leading_noops (l ++ x) ≡ leading_noops l
-unfolding leading_noops if◌then◌else◌
+unfolding leading_noops when◌then◌else◌
 noops_append [] x h = absurd (omega arith)
 noops_append (b ∷ l) x h = go (noops_append l x) (eqb b 'N') h
   where
-    go : (leading_noops l < length l → leading_noops (l ++ x) ≡ leading_noops l) → (t : Bool) → (if t then suc (leading_noops l) else 0) < suc (length l)
-        → (if t then suc (leading_noops (l ++ x)) else 0) ≡ (if t then suc (leading_noops l) else 0)
+    go : (leading_noops l < length l → leading_noops (l ++ x) ≡ leading_noops l) → (t : Bool) → (when t then suc (leading_noops l) else 0) < suc (length l)
+        → (when t then suc (leading_noops (l ++ x)) else 0) ≡ (when t then suc (leading_noops l) else 0)
     go rest true h = ap suc (rest (omega arith))
     go rest false h = refl
 
@@ -136,8 +136,8 @@ module _ (free : ℕ → ℕ → Type 0) (m x : List ℕ) (r r' : ℕ) (g g' : G
   Kept A part from least o o' = Keeps free o o'
 
   extended_keeps : {A : Type 0} {o o' : Outcome A} (b : Bool) (p : ℕ) → (b ≡ true → get_or m p 0 ≡ 'E') → Keeps free o o'
-      → Keeps free (if g.extensions && b then o else fault not_allowed p) (if g'.extensions && b then o' else fault not_allowed p)
-  unfolding if◌then◌else◌
+      → Keeps free (when g.extensions && b then o else fault not_allowed p) (when g'.extensions && b then o' else fault not_allowed p)
+  unfolding when◌then◌else◌
   extended_keeps false p s k = rw (and-false g.extensions, and-false g'.extensions) same
   extended_keeps {o = o} {o' = o'} true p s k = elim added.grammar_added [
     | inl e ↦ rw e (go g.extensions g.extensions (λ e. e) (inl refl))
@@ -145,7 +145,7 @@ module _ (free : ℕ → ℕ → Type 0) (m x : List ℕ) (r r' : ℕ) (g g' : G
   ]
     where
       go : (a a' : Bool) → (a ≡ true → a' ≡ true) → (a' ≡ a) ⊎ free not_allowed p
-          → Keeps free (if a && true then o else fault not_allowed p) (if a' && true then o' else fault not_allowed p)
+          → Keeps free (when a && true then o else fault not_allowed p) (when a' && true then o' else fault not_allowed p)
       go true true h e = k
       go true false h e = absurd (false≢true (h refl))
       go false false h e = same

@@ -9,7 +9,7 @@ use lib.ListN.{length, get_or}
 use lib.Dec.{leb, eqb}
 use borrow.Author.Tests.{ltb-true, leb-true, leb-false, eqb-false}
 use Rattle.format.specs.Grammars.{Grammar}
-use Rattle.format.specs.Conditions.{if◌then◌else◌}
+use Rattle.format.specs.Conditions.{when◌then◌else◌}
 use Rattle.format.specs.Outcome.{Outcome, fault, done, ◌>>=◌, ◌>>◌, guard}
 use Rattle.format.specs.Limits.{limit}
 use Rattle.format.specs.Refusals.{message_too_long, bytes_after, not_built}
@@ -50,8 +50,8 @@ module _ {A : Type 0} {m : List ℕ} {P : A → Type 0} where
   then_stays (refused n) k = refused n
   then_stays (stays h) k = k h
 
-  if_stays : (b : Bool) {x y : Outcome A} → Stays m P x → Stays m P y → Stays m P (if b then x else y)
-  unfolding if◌then◌else◌
+  if_stays : (b : Bool) {x y : Outcome A} → Stays m P x → Stays m P y → Stays m P (when b then x else y)
+  unfolding when◌then◌else◌
   if_stays true f g = f
   if_stays false f g = g
 

@@ -6,7 +6,7 @@ use mathlib.Core.Bool.{Bool, true, false, false≢true}
 use native.Mathlib.Omega.{arith}
 use lib.Dec.{eqb}
 use borrow.Author.Tests.{eq-eqb}
-use Rattle.format.specs.Conditions.{if◌then◌else◌}
+use Rattle.format.specs.Conditions.{when◌then◌else◌}
 use Rattle.format.specs.Outcome.{Outcome, fault, done, number_of, ◌>>=◌, ◌>>◌, guard}
 use Rattle.format.specs.Refusals.{no_row_left}
 use Rattle.format.specs.Tokens.{Forest, size, ◌⊕◌}
@@ -30,8 +30,8 @@ then_law (refused s) k = refused s
 then_law (holds h) k = k h
 
 pub if_law : {A : Type 0} {S : Type 0} {P : A → Type 0} (b : Bool) {x y : Outcome A}
-    → (b ≡ true → Holds S P x) → (b ≡ false → Holds S P y) → Holds S P (if b then x else y)
-unfolding if◌then◌else◌
+    → (b ≡ true → Holds S P x) → (b ≡ false → Holds S P y) → Holds S P (when b then x else y)
+unfolding when◌then◌else◌
 if_law true f g = f refl
 if_law false f g = g refl
 

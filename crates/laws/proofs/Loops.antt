@@ -5,7 +5,7 @@ use mathlib.Core.List.{List}
 use native.Mathlib.Omega.{arith}
 use lib.ListN.{length}
 use lib.Dec.{eqb}
-use Rattle.format.specs.Conditions.{if◌then◌else◌}
+use Rattle.format.specs.Conditions.{when◌then◌else◌}
 use Rattle.format.specs.Outcome.{Outcome, done, Parsed, ◌>>=◌}
 use Rattle.format.specs.Tokens.{Forest, none, ◌⊕◌}
 use Rattle.format.specs.Bytes.{byte}
@@ -27,13 +27,13 @@ module _ (m : List ℕ) (rows_lent : ℕ) (gap : ℕ → ℕ) (closing : ℕ) (i
   until_fuel (suc n) zero at row h k l = byte_starts m (gap at) _ (let u = up at in omega arith)
   until_fuel (suc n) (suc n') at row h k l =
       let u = up at in
-      bind_same (byte_law m {S = Unit {0}} (gap at)) λ b i. ap (λ (o : Parsed Forest). if eqb b closing then done (none, gap at) else o)
+      bind_same (byte_law m {S = Unit {0}} (gap at)) λ b i. ap (λ (o : Parsed Forest). when eqb b closing then done (none, gap at) else o)
       (bind_same (bounded (gap at) row (omega arith) (omega arith)) λ f hf.
       ap (λ (o : Parsed Forest). o >>= (λ g. done (f.0 ⊕ g.0, g.1)))
       (until_fuel n n' f.1 _ (let x = hf.on in omega arith) (let x = hf.on in omega arith) hf.lent))
 
   -- the loop's equation
   pub until_step : (at row : ℕ) → row ≤ rows_lent → until m (length m) gap closing item at row
-      ≡ (byte m (gap at) >>= (λ b. if eqb b closing then done (none, gap at) else (item ⨾ until m (length m) gap closing item) (gap at) row))
+      ≡ (byte m (gap at) >>= (λ b. when eqb b closing then done (none, gap at) else (item ⨾ until m (length m) gap closing item) (gap at) row))
   unfolding until ◌⨾◌
   until_step at row l = until_fuel (length m) (suc (length m)) at row (omega arith) (omega arith) l

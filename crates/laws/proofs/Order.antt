@@ -4,7 +4,7 @@ use mathlib.Core.Path.{◌≡◌, refl, sym, ◌∙◌}
 use mathlib.Core.Bool.{Bool, true, false, ◌||◌, false≢true}
 use mathlib.Core.Logic.{inl, inr}
 use native.Mathlib.Omega.{arith}
-use Rattle.format.specs.Conditions.{if◌then◌else◌}
+use Rattle.format.specs.Conditions.{when◌then◌else◌}
 use Rattle.format.specs.Marks.{Opening, bracket, brace}
 use Rattle.format.specs.Tokens.{Token, Kind, key as kind_of_key, packed, table, leaf as kind_of_leaf, schema_record, fixed_array, is_kind, Forest, none, node, size, ◌⊕◌}
 use Rattle.format.specs.Records.{at_offset, placed}
@@ -87,7 +87,7 @@ unfolding is_kind
 key_kind = refl
 
 pub order_placed : {k due : Bool} {low high : ℕ} {f : Forest} (at : ℕ) → Members k due f → InOrder low high f → InOrder low high (placed at f)
-unfolding placed at_offset if◌then◌else◌
+unfolding placed at_offset when◌then◌else◌
 order_placed at no_more (stop h) = stop h
 order_placed at (key {t = t} i n) (step h u r a) =
     let e : is_kind kind_of_key t.kind ≡ true = rw i.kind_is key_kind in
@@ -100,11 +100,11 @@ order_placed at (group o {t = t} i _ k n) (step h u r a) =
     rw s.not_key (step h (order_placed at k u) (offset s.uncut s.in_record r.on) (order_placed _ n a))
 
 pub size-placed : (at : ℕ) (f : Forest) → size (placed at f) ≡ size f
-unfolding placed size if◌then◌else◌
+unfolding placed size when◌then◌else◌
 size-placed at none = refl
 size-placed at (node t below after) = go (is_kind kind_of_key t.kind) (size-placed at below) (size-placed at after) (size-placed (at + t.extent) after)
   where
     go : (b : Bool) → size (placed at below) ≡ size below → size (placed at after) ≡ size after → size (placed (at + t.extent) after) ≡ size after
-        → size (if b then node t below (placed at after) else node (at_offset at t) (placed at below) (placed (at + t.extent) after)) ≡ suc (size below + size after)
+        → size (when b then node t below (placed at after) else node (at_offset at t) (placed at below) (placed (at + t.extent) after)) ≡ suc (size below + size after)
     go true u a b = omega arith
     go false u a b = omega arith

@@ -9,7 +9,7 @@ use lib.ListN.{length}
 use lib.Dec.{ltb}
 use borrow.Author.Tests.{ltb-true, ltb-false}
 use Rattle.format.specs.Grammars.{Grammar}
-use Rattle.format.specs.Conditions.{if◌then◌else◌}
+use Rattle.format.specs.Conditions.{when◌then◌else◌}
 use Rattle.format.specs.Outcome.{Outcome, fault, done, Parsed, ◌>>=◌, ◌>>◌, guard}
 use Rattle.format.specs.Refusals.{no_row_left}
 use Rattle.format.specs.Marks.{Opening, bracket, brace}
@@ -59,24 +59,24 @@ record Begins (row : ℕ) (f : Forest) (k place : ℕ) : Type 0 where
 
 -- offsets move no token
 begins_placed : {row k : ℕ} {f v : Forest} {t : Token} (offset : ℕ) → At row f k t v → Begins row (placed offset f) k t.first
-unfolding placed at_offset if◌then◌else◌
+unfolding placed at_offset when◌then◌else◌
 begins_placed offset (here {t = s} {below = below} {after = after}) = go (is_kind kind_of_key s.kind)
   where
     go : {row : ℕ} (b : Bool)
-        → Begins row (if b then node s below (placed offset after) else node (at_offset offset s) (placed offset below) (placed (offset + s.extent) after)) row s.first
+        → Begins row (when b then node s below (placed offset after) else node (at_offset offset s) (placed offset below) (placed (offset + s.extent) after)) row s.first
     go true = record { token = _; below = _; stands = here; begins = refl }
     go false = record { token = _; below = _; stands = here; begins = refl }
 begins_placed offset (under {t = s} {below = below} {after = after} x) = go (is_kind kind_of_key s.kind) x (begins_placed offset x)
   where
     go : {row k : ℕ} {t : Token} {v : Forest} (b : Bool) → At (suc row) below k t v → Begins (suc row) (placed offset below) k t.first
-        → Begins row (if b then node s below (placed offset after) else node (at_offset offset s) (placed offset below) (placed (offset + s.extent) after)) k t.first
+        → Begins row (when b then node s below (placed offset after) else node (at_offset offset s) (placed offset below) (placed (offset + s.extent) after)) k t.first
     go true x y = record { token = _; below = _; stands = under x; begins = refl }
     go false x y = record { token = _; below = _; stands = under y.stands; begins = y.begins }
 begins_placed offset (later {t = s} {below = below} {after = after} x) =
     go (is_kind kind_of_key s.kind) (begins_placed offset x) (begins_placed (offset + s.extent) x)
   where
     go : {row k place : ℕ} (b : Bool) → Begins (suc row + size below) (placed offset after) k place → Begins (suc row + size below) (placed (offset + s.extent) after) k place
-        → Begins row (if b then node s below (placed offset after) else node (at_offset offset s) (placed offset below) (placed (offset + s.extent) after)) k place
+        → Begins row (when b then node s below (placed offset after) else node (at_offset offset s) (placed offset below) (placed (offset + s.extent) after)) k place
     go true x y = record { token = _; below = _; stands = later x.stands; begins = x.begins }
     go {row} {k} false x y =
         let e = sym (size-placed offset below) in
@@ -109,8 +109,8 @@ module _ (k : ℕ) {A : Type 0} {tokens : A → Forest} {row : ℕ} where
   test_lent (fault n p) c = either
   test_lent (done b) c = c
 
-  if_lent : (b : Bool) {x x' y y' : Outcome A} → Lent k tokens row x x' → Lent k tokens row y y' → Lent k tokens row (if b then x else y) (if b then x' else y')
-  unfolding if◌then◌else◌
+  if_lent : (b : Bool) {x x' y y' : Outcome A} → Lent k tokens row x x' → Lent k tokens row y y' → Lent k tokens row (when b then x else y) (when b then x' else y')
+  unfolding when◌then◌else◌
   if_lent true c d = c
   if_lent false c d = d
 

@@ -9,7 +9,7 @@ use lib.ListN.{length}
 use lib.Dec.{eqb}
 use borrow.Author.Tests.{eqb-true}
 use Rattle.format.specs.Grammars.{Grammar}
-use Rattle.format.specs.Conditions.{if◌then◌else◌}
+use Rattle.format.specs.Conditions.{when◌then◌else◌}
 use Rattle.format.specs.Outcome.{Outcome, fault, done, Parsed, ◌>>=◌}
 use Rattle.format.specs.Refusals.{ends_too_early}
 use Rattle.format.specs.Marks.{Opening, bracket, brace, is_integer, width, 'E'}
@@ -65,8 +65,8 @@ module _ (m m' : List ℕ) (r r' : ℕ) (g g' : Grammar) (R : Relation) (rules :
   goes b at row = rules.lower (omega arith) (omega arith) (b at row)
 
   if_related : {A : Type 0} {part : A → Part} {from least : ℕ} (b : Bool) {x y x' y' : Outcome A}
-      → R A part from least x x' → R A part from least y y' → R A part from least (if b then x else y) (if b then x' else y')
-  unfolding if◌then◌else◌
+      → R A part from least x x' → R A part from least y y' → R A part from least (when b then x else y) (when b then x' else y')
+  unfolding when◌then◌else◌
   if_related true f g = f
   if_related false f g = g
 
@@ -214,8 +214,8 @@ module _ (m m' : List ℕ) (r r' : ℕ) (g g' : Grammar) (R : Relation) (rules :
   until_related (suc n) (suc n') gap gap' closing {item} {item'} u g a at row =
       let less : Fuel n n' = (omega arith, λ e. let q = u.1 e in omega arith) in
       g (up_to (λ end. end + 1))
-      (λ p. byte m p >>= (λ b. if eqb b closing then done (none, p) else (item ⨾ until m n gap closing item) p row))
-      (λ p. byte m' p >>= (λ b. if eqb b closing then done (none, p) else (item' ⨾ until m' n' gap' closing item') p row))
+      (λ p. byte m p >>= (λ b. when eqb b closing then done (none, p) else (item ⨾ until m n gap closing item) p row))
+      (λ p. byte m' p >>= (λ b. when eqb b closing then done (none, p) else (item' ⨾ until m' n' gap' closing item') p row))
       at (λ p. byte_starts m p _)
       (first_byte (gap at) λ b. if_related _ (rules.finish _ (nothing_passes _ _ (omega arith)))
       (rules.seq (λ end. end + 1) _ _ _ _ (gap at) (gap at + 1) (gap at) row (omega arith) (a (gap at) row) λ next row.

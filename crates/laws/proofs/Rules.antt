@@ -7,7 +7,7 @@ use mathlib.Core.List.{List}
 use native.Mathlib.Omega.{arith}
 use lib.ListN.{length, get_or}
 use Rattle.format.specs.Outcome.{Outcome, fault, done, Parsed, ◌>>=◌, ◌>>◌, guard}
-use Rattle.format.specs.Conditions.{if◌then◌else◌}
+use Rattle.format.specs.Conditions.{when◌then◌else◌}
 use Rattle.format.specs.Grammars.{Grammar}
 use Rattle.format.specs.Refusals.{ends_too_early, not_allowed}
 use Rattle.format.specs.Marks.{width, 'E'}
@@ -72,7 +72,7 @@ pub record Rules (m m' : List ℕ) (r r' : ℕ) (g g' : Grammar) (R : Relation) 
       → R A part from least (row_left r at row >> o) (row_left r' at row >> o')
   -- an extension, where the grammar has them and `E` stands
   pub extended : {A : Type 0} {part : A → Part} {from least : ℕ} {o o' : Outcome A} (b : Bool) (p : ℕ) → (b ≡ true → get_or m p 0 ≡ 'E') → R A part from least o o'
-      → R A part from least (if g.extensions && b then o else fault not_allowed p) (if g'.extensions && b then o' else fault not_allowed p)
+      → R A part from least (when g.extensions && b then o else fault not_allowed p) (when g'.extensions && b then o' else fault not_allowed p)
   -- a byte that is looked at, and a number
   pub look : {A : Type 0} {part : A → Part} {k k' : ℕ → Outcome A} (from least at : ℕ) → from ≤ at → at < least
       → ((b : ℕ) → b ≡ get_or m at 0 → R A part from least (k b) (k' b))

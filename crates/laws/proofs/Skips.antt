@@ -7,25 +7,25 @@ use native.Mathlib.Omega.{arith}
 use lib.ListN.{length, drop, length-drop}
 use lib.Seq.{drop-drop}
 use lib.Dec.{eqb}
-use Rattle.format.specs.Conditions.{if◌then◌else◌}
+use Rattle.format.specs.Conditions.{when◌then◌else◌}
 use Rattle.format.specs.Marks.{'N'}
 use Rattle.format.specs.Bytes.{leading_noops, skip}
 
 noops_few : (l : List ℕ) → leading_noops l ≤ length l
-unfolding leading_noops if◌then◌else◌
+unfolding leading_noops when◌then◌else◌
 noops_few [] = omega arith
 noops_few (b ∷ l) = go (eqb b 'N') (noops_few l)
   where
-    go : (t : Bool) → leading_noops l ≤ length l → (if t then suc (leading_noops l) else 0) ≤ suc (length l)
+    go : (t : Bool) → leading_noops l ≤ length l → (when t then suc (leading_noops l) else 0) ≤ suc (length l)
     go true h = omega arith
     go false h = omega arith
 
 noops_gone : (l : List ℕ) → leading_noops (drop (leading_noops l) l) ≡ 0
-unfolding leading_noops if◌then◌else◌
+unfolding leading_noops when◌then◌else◌
 noops_gone [] = refl
 noops_gone (b ∷ l) = go (eqb b 'N') refl (noops_gone l)
   where
-    go : (t : Bool) → eqb b 'N' ≡ t → leading_noops (drop (leading_noops l) l) ≡ 0 → leading_noops (drop (if t then suc (leading_noops l) else 0) (b ∷ l)) ≡ 0
+    go : (t : Bool) → eqb b 'N' ≡ t → leading_noops (drop (leading_noops l) l) ≡ 0 → leading_noops (drop (when t then suc (leading_noops l) else 0) (b ∷ l)) ≡ 0
     go true e h = h
     go false e h = rw e
 

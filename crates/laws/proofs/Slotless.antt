@@ -3,7 +3,7 @@ use Prim.Native.Nat.{ℕ}
 use mathlib.Core.Path.{◌≡◌, refl, sym, ◌∙◌}
 use mathlib.Core.Bool.{Bool, true, false, false≢true}
 use mathlib.Core.Logic.{◌⊎◌, inl, inr}
-use Rattle.format.specs.Conditions.{if◌then◌else◌}
+use Rattle.format.specs.Conditions.{when◌then◌else◌}
 use Rattle.format.specs.Tokens.{Token, Kind, key as kind_of_key, dimension as kind_of_dimension, is_kind, Forest, none, node, ◌⊕◌}
 use Rattle.format.specs.Records.{at_offset, placed}
 use Rattle.laws.specs.Places.{IsCut, InSlots, in_own, in_under, in_later}
@@ -49,7 +49,7 @@ unfolding is_cut is_kind
 key_uncut = refl
 
 pub placed_slotless : {k due : Bool} {f : Forest} (at : ℕ) → Members k due f → Slotless (placed at f)
-unfolding placed at_offset if◌then◌else◌
+unfolding placed at_offset when◌then◌else◌
 placed_slotless at no_more = none_slotless
 placed_slotless at (key {t = t} i r) =
     let e : is_kind kind_of_key t.kind ≡ true = rw i.kind_is key_kind in

@@ -6,7 +6,7 @@ use mathlib.Core.List.{List, [], ◌∷◌, ◌++◌}
 use native.Mathlib.Omega.{arith}
 use native.Mathlib.Nat.{suc-mul, mul-add, le_trans}
 use lib.ListN.{length}
-use Rattle.format.specs.Conditions.{if◌then◌else◌}
+use Rattle.format.specs.Conditions.{when◌then◌else◌}
 use Rattle.format.specs.Marks.{Opening, bracket, brace, width}
 use Rattle.format.specs.Tokens.{Token, leaf as kind_of_leaf, is_kind, Forest, none, node, below_first}
 use Rattle.format.specs.Records.{member_width, total_width}
@@ -44,7 +44,7 @@ group_no_leaf brace = refl
 
 -- a schema's token that is no key
 pub member_width_lem : (t : Token) → OfSchema t.kind → member_width t ≡ t.extent
-unfolding member_width if◌then◌else◌
+unfolding member_width when◌then◌else◌
 member_width_lem t s = rw s.not_key
 
 module _ {A : Type 0} where
@@ -96,7 +96,7 @@ module _ {A : Type 0} where
   -- ---- tables
 
   leaves_tile : {f : Forest} → Measured f → (n : ℕ) (a : A) (at : ℕ) → Tiles (at + total_width f) at (leaves n f a at)
-  unfolding leaves total_width if◌then◌else◌
+  unfolding leaves total_width when◌then◌else◌
   leaves_tile nothing n a at = no_slot_lem (omega arith)
   leaves_tile (of_leaf {t = t} k r) n a at =
       let b : is_kind kind_of_leaf t.kind ≡ true = rw k leaf_is in
@@ -129,7 +129,7 @@ length_count k (suc n) = ap suc (length_count (suc k) n)
 -- ---- what reads a schema gives such tokens
 
 pub members_measured : {k due : Bool} {f : Forest} → Members k due f → Measured f
-unfolding total_width member_width is_kind if◌then◌else◌
+unfolding total_width member_width is_kind when◌then◌else◌
 members_measured no_more = nothing
 members_measured (key {t = t} i r) =
     let k : is_kind kind_of_leaf t.kind ≡ false = rw i.kind_is in

@@ -1,6 +1,6 @@
 -- The leaf that is looked for, as a walk over the members of a schema comes to it.
 use Rattle.std.specs.Prelude.{ℕ, zero, suc, ◌+◌}
-use Rattle.format.specs.Conditions.{if◌then◌else◌}
+use Rattle.format.specs.Conditions.{when◌then◌else◌}
 use Rattle.format.specs.Outcome.{Outcome, fault, done}
 use Rattle.format.specs.Refusals.{not_there}
 use Rattle.format.specs.Tokens.{leaf, is_kind, Forest, none, node}
@@ -23,7 +23,7 @@ latest (Found o w) now before = before
 unfoldable pub past : Forest → ℕ → Seen → Seen
 past none offset seen = seen
 past (node t below after) offset seen =
-    past after (offset + member_width t) (if is_kind leaf t.kind then passed seen offset t.extent else past below offset seen)
+    past after (offset + member_width t) (when is_kind leaf t.kind then passed seen offset t.extent else past below offset seen)
 
 -- where a leaf stands in a record: its offset and its width, and those of its top-level field
 pub record Spot : Type 0 where

@@ -7,7 +7,7 @@ use native.Mathlib.Omega.{arith}
 use lib.ListN.{length}
 use lib.Dec.{ltb}
 use borrow.Author.Tests.{le-leb, lt-leb, ltb-true, lt-ltb, le-ltb}
-use Rattle.format.specs.Conditions.{if◌then◌else◌, same}
+use Rattle.format.specs.Conditions.{when◌then◌else◌, same}
 use Rattle.format.specs.Outcome.{Outcome, fault, done, ◌>>=◌, ◌>>◌, guard}
 use Rattle.format.specs.Refusals.{not_there, rows_dont_fit}
 use Rattle.format.specs.Rows.{Row, row_at, rows_in}
@@ -92,7 +92,7 @@ module _ (m ws name : List ℕ) where
 
   -- after a key: its member, or those that come after the member
   after : ℕ → ℕ → Bool → ℕ → Outcome ℕ
-  after fuel stop b member = if b then done member else (along ws (λ r. true) stop member >>= find m ws name fuel stop)
+  after fuel stop b member = when b then done member else (along ws (λ r. true) stop member >>= find m ws name fuel stop)
 
   regroup : (stop : ℕ) (o : Outcome ℕ) (a : Bool) (f : ℕ → Outcome ℕ)
       → (o >>= (λ x. guard a rows_dont_fit 0 >> (guard (ltb x stop) rows_dont_fit 0 >> f x)))
@@ -107,7 +107,7 @@ module _ (m ws name : List ℕ) where
       go false = refl
 
   step : (fuel stop key : ℕ) → key < stop → find m ws name (suc fuel) stop key ≡ (member_of m ws stop key >>= after fuel stop (named key))
-  unfolding find member_of if◌then◌else◌ after named
+  unfolding find member_of when◌then◌else◌ after named
   step fuel stop key h = rw (lt-leb stop key h) (regroup stop (along ws is_key stop key) (within (length m) (row_at ws key).payload (row_at ws key).extent) (after fuel stop (named key)))
 
   -- from a key on, with fuel that is enough
@@ -123,7 +123,7 @@ module _ (m ws name : List ℕ) where
 
     -- no member is left
     pub ended : (key : ℕ) → Walk stop from key → stop ≤ key → fault not_there 0 ≡ find m ws name (length ws) stop from
-    unfolding find if◌then◌else◌
+    unfolding find when◌then◌else◌
     ended key w h = sym (go w.fuel) ∙ w.rest
       where
         go : (fuel : ℕ) → find m ws name fuel stop key ≡ fault not_there 0
@@ -149,13 +149,13 @@ module _ (m ws name : List ℕ) where
       module _ (member : ℕ) (e : done member ≡ member_of m ws stop key) where
         -- its bytes are the name's
         pub hit : named key ≡ true → done member ≡ find m ws name (length ws) stop from
-        unfolding ◌>>=◌ after if◌then◌else◌
+        unfolding ◌>>=◌ after when◌then◌else◌
         hit s = rw (← e, s) at (turn key w h).2
 
         module _ (s : named key ≡ false) where
           -- its member can't be passed
           pub barred : (n : ℕ) → fault n 0 ≡ along ws (λ r. true) stop member → fault rows_dont_fit 0 ≡ find m ws name (length ws) stop from
-          unfolding ◌>>=◌ after if◌then◌else◌
+          unfolding ◌>>=◌ after when◌then◌else◌
           barred n f = rw (← Along.refused ws (λ r. true) stop member n (sym f)) (rw (← e, s, ← f) at (turn key w h).2)
 
           -- the next key stands after this one
@@ -167,7 +167,7 @@ module _ (m ws name : List ℕ) where
 
           -- on to it
           pub onward : (next : ℕ) → done next ≡ along ws (λ r. true) stop member → Walk stop from next
-          unfolding ◌>>=◌ after if◌then◌else◌
+          unfolding ◌>>=◌ after when◌then◌else◌
           onward next f =
               let t = turn key w h in
               record { fuel = t.0; enough = omega (arith, t.1, higher next f); rest = rw (← e, s, ← f) at t.2 }

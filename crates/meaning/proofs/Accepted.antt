@@ -6,7 +6,7 @@ use mathlib.Core.Bool.{Bool, true, false}
 use mathlib.Core.List.{List}
 use native.Mathlib.Omega.{arith}
 use lib.ListN.{length, get_or}
-use Rattle.format.specs.Conditions.{if◌then◌else◌}
+use Rattle.format.specs.Conditions.{when◌then◌else◌}
 use Rattle.format.specs.Outcome.{done}
 use Rattle.format.specs.Limits.{limit, id_limit, record_limit, schema_levels}
 use Rattle.format.specs.Marks.{Opening, bracket, brace, opens, is_type, is_scalar, is_plain_leaf, width, leaf_width, is_integer, 'S', 'H', 'E'}
@@ -115,18 +115,18 @@ module _ (m : List ℕ) (grammar : Grammar) where
         → Accepted one (value (suc levels)) (Containers.stored kind_of_table (opens o) at start (n.many * total_width s) n (placed 0 s ⊕ n.dimensions))
 
   container_counts : (o : Opening) (at start end : ℕ) (under : Forest) → members (Containers.container o at start end under) ≡ 1
-  unfolding Containers.container Containers.container_kind members is_kind if◌then◌else◌
+  unfolding Containers.container Containers.container_kind members is_kind when◌then◌else◌
   container_counts bracket at start end under = refl
   container_counts brace at start end under = refl
 
   group_counts : (o : Opening) (at : ℕ) (under : Forest) → members (Schemas.group (group_kind o) o at under) ≡ 1
-  unfolding Schemas.group members is_kind if◌then◌else◌
+  unfolding Schemas.group members is_kind when◌then◌else◌
   group_counts bracket at under = refl
   group_counts brace at under = refl
 
   -- so many members
   pub accepted_members : {s : Sort} {f : Forest} → Accepted one s f → members f ≡ weight s
-  unfolding members weight is_kind if◌then◌else◌ Containers.stored Schemas.leaf
+  unfolding members weight is_kind when◌then◌else◌ Containers.stored Schemas.leaf
   accepted_members (both {f = f} {g = g} p q) = let x = accepted_members p in let y = accepted_members q in omega (arith, members_append f g)
   accepted_members (apart p) = accepted_members p
   accepted_members (a_scalar _ _ _ _ _ _) = refl

@@ -8,7 +8,7 @@ use native.Mathlib.Omega.{arith}
 use lib.ListN.{length, get_or, take, drop, length-map}
 use lib.Seq.{take_at, drop_at}
 use Rattle.format.specs.Grammars.{Grammar}
-use Rattle.format.specs.Conditions.{if◌then◌else◌, among}
+use Rattle.format.specs.Conditions.{when◌then◌else◌, among}
 use Rattle.format.specs.Outcome.{done}
 use Rattle.format.specs.Limits.{limit}
 use Rattle.format.specs.Tokens.{Kind, kind_number, scalar, text, high_precision, key, array, object, packed, table, leaf, schema_record, fixed_array, dimension, extension, Token, Forest, none, node, size}
@@ -27,7 +27,7 @@ use Rattle.meaning.proofs.RoundTrip.{round_trip_with}
 
 -- kind, count, link and order always do
 always : (kind : Kind) → Counts kind 0 × Counts kind 5 × Counts kind 6 × Counts kind 7
-unfolding free among if◌then◌else◌
+unfolding free among when◌then◌else◌
 always scalar = (refl, refl, refl, refl)
 always text = (refl, refl, refl, refl)
 always high_precision = (refl, refl, refl, refl)
@@ -43,14 +43,14 @@ always dimension = (refl, refl, refl, refl)
 always extension = (refl, refl, refl, refl)
 
 -- a word that counts in both rows is the same
-word_same : (b c : Bool) (v w : ℕ) → (if b then 0 else v) ≡ (if c then 0 else w) → b ≡ false → c ≡ false → w ≡ v
-unfolding if◌then◌else◌
+word_same : (b c : Bool) (v w : ℕ) → (when b then 0 else v) ≡ (when c then 0 else w) → b ≡ false → c ≡ false → w ≡ v
+unfolding when◌then◌else◌
 word_same false false v w e p q = sym e
 word_same true c v w e p q = absurd (false≢true (sym p))
 word_same false true v w e p q = absurd (false≢true (sym q))
 
-bytes_same : (b c : Bool) (x y : List ℕ) → (if b then x else []) ≡ (if c then y else []) → b ≡ true → c ≡ true → y ≡ x
-unfolding if◌then◌else◌
+bytes_same : (b c : Bool) (x y : List ℕ) → (when b then x else []) ≡ (when c then y else []) → b ≡ true → c ≡ true → y ≡ x
+unfolding when◌then◌else◌
 bytes_same true true x y e p q = sym e
 bytes_same false c x y e p q = absurd (false≢true p)
 bytes_same true false x y e p q = absurd (false≢true q)

@@ -7,7 +7,7 @@ use native.Mathlib.Omega.{arith}
 use lib.ListN.{length, drop, length-append}
 use lib.Dec.{eqb}
 use borrow.Author.Tests.{eqb-true, eqb-false, eq-eqb}
-use Rattle.format.specs.Conditions.{if◌then◌else◌, among}
+use Rattle.format.specs.Conditions.{when◌then◌else◌, among}
 use Rattle.format.specs.Marks.{'N', '#', '$', ']', right_brace}
 use Rattle.format.specs.Tokens.{Token, is_kind, key as kind_of_key, Forest, none, node, size, ◌⊕◌, members}
 use Rattle.format.specs.HouseForm.{Written, whole, token, written, house}
@@ -35,11 +35,11 @@ house_alone m t below = append-nil (token m t.kind t (written m below))
 
 -- no more members than tokens
 pub members_few : (f : Forest) → members f ≤ size f
-unfolding members size if◌then◌else◌
+unfolding members size when◌then◌else◌
 members_few none = omega arith
 members_few (node t below after) = go (is_kind kind_of_key t.kind) (members_few after)
   where
-    go : (b : Bool) → members after ≤ size after → (if b then 0 else 1) + members after ≤ suc (size below + size after)
+    go : (b : Bool) → members after ≤ size after → (when b then 0 else 1) + members after ≤ suc (size below + size after)
     go true h = omega arith
     go false h = omega arith
 

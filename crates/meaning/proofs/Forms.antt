@@ -7,7 +7,7 @@ use lib.ListN.{length, drop}
 use lib.Dec.{eqb}
 use Rattle.format.specs.Grammars.{Grammar}
 use Rattle.format.specs.Limits.{limit}
-use Rattle.format.specs.Conditions.{if◌then◌else◌}
+use Rattle.format.specs.Conditions.{when◌then◌else◌}
 use Rattle.format.specs.Marks.{Opening, bracket, brace, opens, closes, 'S', '#', '$'}
 use Rattle.format.specs.Tokens.{Kind, text, high_precision, key, packed, table, leaf, dimension, Token, Forest, extension}
 use Rattle.format.specs.Extensions.{id_bytes}
@@ -73,7 +73,7 @@ module _ (h : List ℕ) (rows_lent : ℕ) (grammar : Grammar) (s : InHouseForm h
     extensions_small e = stands_as extension e
 
     -- A leaf of a schema has its mark, and the width of a text likewise.
-    pub leaves_small : t.kind ≡ leaf → StandsAs (t.mark ∷ (if eqb t.mark 'S' then small_integer t.extent else []))
+    pub leaves_small : t.kind ≡ leaf → StandsAs (t.mark ∷ (when eqb t.mark 'S' then small_integer t.extent else []))
     unfolding token
     leaves_small e = stands_as leaf e
 

@@ -9,7 +9,7 @@ use lib.ListN.{length, get_or, take, drop, length-append, length-drop}
 use lib.Seq.{drop-drop, drop-append_seam, take-append_seam, get_or-drop, take-take}
 use lib.Dec.{leb, ltb}
 use borrow.Author.Tests.{lt-ltb, le-leb, not-true}
-use Rattle.format.specs.Conditions.{if◌then◌else◌, among, all}
+use Rattle.format.specs.Conditions.{when◌then◌else◌, among, all}
 use Rattle.format.specs.Outcome.{Outcome, done, ◌>>=◌, ◌>>◌, guard}
 use Rattle.format.specs.Limits.{limit}
 use Rattle.format.specs.Refusals.{ends_too_early, not_allowed, wrong_content, no_row_left}
@@ -64,12 +64,12 @@ passes b n p e = rw e
 pub guard_known : {A : Type 0} {P : A → Type 0} {r : Outcome A} (b : Bool) (n p : ℕ) → b ≡ true → Succeeds P r → Succeeds P (guard b n p >> r)
 guard_known b n p e k = then_known (passes b n p e) k
 
-pub taken : {A : Type 0} {P : A → Type 0} (b : Bool) {x : Outcome A} (y : Outcome A) → b ≡ true → Succeeds P x → Succeeds P (if b then x else y)
-unfolding if◌then◌else◌
+pub taken : {A : Type 0} {P : A → Type 0} (b : Bool) {x : Outcome A} (y : Outcome A) → b ≡ true → Succeeds P x → Succeeds P (when b then x else y)
+unfolding when◌then◌else◌
 taken b y e g = rw e g
 
-pub passed : {A : Type 0} {P : A → Type 0} (b : Bool) (x : Outcome A) {y : Outcome A} → b ≡ false → Succeeds P y → Succeeds P (if b then x else y)
-unfolding if◌then◌else◌
+pub passed : {A : Type 0} {P : A → Type 0} (b : Bool) (x : Outcome A) {y : Outcome A} → b ≡ false → Succeeds P y → Succeeds P (when b then x else y)
+unfolding when◌then◌else◌
 passed b x e g = rw e g
 
 -- ---- parts of bytes

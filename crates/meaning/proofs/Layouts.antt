@@ -5,7 +5,7 @@ use mathlib.Core.Bool.{Bool, true, false, false≢true}
 use mathlib.Core.List.{List, [], ◌∷◌, ◌++◌, append-nil}
 use native.Mathlib.Omega.{arith}
 use lib.ListN.{length}
-use Rattle.format.specs.Conditions.{if◌then◌else◌, among}
+use Rattle.format.specs.Conditions.{when◌then◌else◌, among}
 use Rattle.format.specs.Marks.{Opening, bracket, brace, width}
 use Rattle.format.specs.Tokens.{Kind, kind_number, key as kind_of_key, leaf as kind_of_leaf, schema_record, fixed_array, Token, is_kind, Forest, none, node, ◌⊕◌, below_first}
 use Rattle.format.specs.Records.{member_width, total_width, at_offset, placed}
@@ -45,14 +45,14 @@ members_schematic (group o {t = t} i e u r) =
 
 -- their marks and widths count
 mark_counts : {kind : Kind} → InSchema kind → Counts kind 1
-unfolding free among if◌then◌else◌
+unfolding free among when◌then◌else◌
 mark_counts a_key = refl
 mark_counts a_leaf = refl
 mark_counts a_record = refl
 mark_counts an_array = refl
 
 width_counts : {kind : Kind} → InSchema kind → Counts kind 4
-unfolding free among if◌then◌else◌
+unfolding free among when◌then◌else◌
 width_counts a_key = refl
 width_counts a_leaf = refl
 width_counts a_record = refl
@@ -82,8 +82,8 @@ cut_append : {ss ss' ts ts' : List (Slot ℕ)} → SameCut ss ss' → SameCut ts
 cut_append no_slot q = q
 cut_append (slot a p) q = slot a (cut_append p q)
 
-cut_if : {ss ss' ts ts' : List (Slot ℕ)} (b : Bool) → SameCut ss ss' → SameCut ts ts' → SameCut (if b then ss else ts) (if b then ss' else ts')
-unfolding if◌then◌else◌
+cut_if : {ss ss' ts ts' : List (Slot ℕ)} (b : Bool) → SameCut ss ss' → SameCut ts ts' → SameCut (when b then ss else ts) (when b then ss' else ts')
+unfolding when◌then◌else◌
 cut_if true p q = p
 cut_if false p q = q
 
@@ -168,8 +168,8 @@ module _ (m h : List ℕ) where
   -- a token, placed where it is no key
   node_placed : (t u : Token) (at : ℕ) {b b' c c' pb pb' pc pc' : Forest} → InSchema t.kind → Alike m h t.kind t u
       → Same m h b b' → Same m h c c' → Same m h pb pb' → Same m h pc pc' → (x : Bool) → is_kind kind_of_key t.kind ≡ x → is_kind kind_of_key u.kind ≡ x
-      → Same m h (if is_kind kind_of_key t.kind then node t b c else node (at_offset at t) pb pc) (if is_kind kind_of_key u.kind then node u b' c' else node (at_offset at u) pb' pc')
-  unfolding if◌then◌else◌ at_offset
+      → Same m h (when is_kind kind_of_key t.kind then node t b c else node (at_offset at t) pb pc) (when is_kind kind_of_key u.kind then node u b' c' else node (at_offset at u) pb' pc')
+  unfolding when◌then◌else◌ at_offset
   node_placed t u at k a p q v w true e e' = rw (e, e') (one a p q)
   node_placed t u at k a p q v w false e e' = rw (e, e') (one (placed_alike t u at k e a) v w)
 
@@ -192,20 +192,20 @@ module _ (m : List ℕ) where
   token_placed t at under an_array e = refl
 
   written-placed : {f : Forest} → Schematic f → (at : ℕ) → written m (placed at f) ≡ written m f
-  unfolding written placed at_offset if◌then◌else◌
+  unfolding written placed at_offset when◌then◌else◌
   written-placed empty at = refl
   written-placed (some {t = t} {below = b} {after = c} k s r) at =
       go (is_kind kind_of_key t.kind) refl (written-placed s at) (written-placed r at) (written-placed r (at + t.extent))
     where
       go : (x : Bool) → is_kind kind_of_key t.kind ≡ x → written m (placed at b) ≡ written m b → written m (placed at c) ≡ written m c
           → written m (placed (at + t.extent) c) ≡ written m c
-          → written m (if x then node t b (placed at c) else node (at_offset at t) (placed at b) (placed (at + t.extent) c)) ≡ written m (node t b c)
+          → written m (when x then node t b (placed at c) else node (at_offset at t) (placed at b) (placed (at + t.extent) c)) ≡ written m (node t b c)
       go true e v w z = λ i. record { first = token m t.kind t (written m b); rest = whole (w i) }
       go false e v w z = λ i. record { first = (ap (token m t.kind (at_offset at t)) v ∙ token_placed t at (written m b) k e) i; rest = whole (z i) }
 
   -- a table's schema is the first token below it
   pub schema_written : {o : Opening} {s : Forest} (dims : Forest) → Group o s → written m (placed 0 s ⊕ dims) ≡ record { first = house m s; rest = house m dims }
-  unfolding placed ◌⊕◌ written house whole if◌then◌else◌ at_offset
+  unfolding placed ◌⊕◌ written house whole when◌then◌else◌ at_offset
   schema_written {o} dims (grouped {t = t} {below = b} i e u) =
       let k : InSchema t.kind = rw i.kind_is (group_in_schema o) in
       let n : is_kind kind_of_key t.kind ≡ false = rw i.kind_is (group_kind_lem o).not_key in
@@ -224,12 +224,12 @@ module _ (m : List ℕ) where
   }
 
   pub all_placed : {f : Forest} → Schematic f → AllStand m f → (at : ℕ) → AllStand m (placed at f)
-  unfolding placed if◌then◌else◌ at_offset
+  unfolding placed when◌then◌else◌ at_offset
   all_placed empty no_token at = no_token
   all_placed (some {t = t} {below = b} {after = c} k s r) (next_token p q v) at =
       go (is_kind kind_of_key t.kind) refl (all_placed s q at) (all_placed r v at) (all_placed r v (at + t.extent))
     where
       go : (x : Bool) → is_kind kind_of_key t.kind ≡ x → AllStand m (placed at b) → AllStand m (placed at c) → AllStand m (placed (at + t.extent) c)
-          → AllStand m (if x then node t b (placed at c) else node (at_offset at t) (placed at b) (placed (at + t.extent) c))
+          → AllStand m (when x then node t b (placed at c) else node (at_offset at t) (placed at b) (placed (at + t.extent) c))
       go true e u w z = next_token p q w
       go false e u w z = next_token (stands_placed t at k s e p) u z

@@ -5,7 +5,7 @@ use mathlib.Core.Bool.{true, false, false≢true}
 use mathlib.Core.List.{List, [], ◌∷◌, ◌++◌, append_assoc}
 use native.Mathlib.Omega.{arith}
 use Rattle.format.specs.Grammars.{Grammar}
-use Rattle.format.specs.Conditions.{if◌then◌else◌, among}
+use Rattle.format.specs.Conditions.{when◌then◌else◌, among}
 use Rattle.format.specs.Limits.{limit}
 use Rattle.format.specs.Marks.{Opening, bracket, brace, opens, is_scalar, integers, types, '#'}
 use Rattle.format.specs.Tokens.{kind_number, Forest, size, members}
@@ -21,7 +21,7 @@ use Rattle.meaning.proofs.Chains.{closers, CopyAt, copy_at, Reading, Chain, alon
 -- a container's place, payload and extent may differ, and its bytes don't count
 list_free : (o : Opening) → (among (free (kind_number (Containers.container_kind o))) 3 ≡ true) × (among (free (kind_number (Containers.container_kind o))) 4 ≡ true)
     × (has_bytes (kind_number (Containers.container_kind o)) ≡ false) × (has_id (kind_number (Containers.container_kind o)) ≡ false)
-unfolding free has_bytes among if◌then◌else◌ Containers.container_kind
+unfolding free has_bytes among when◌then◌else◌ Containers.container_kind
 list_free bracket = (refl, refl, refl, refl)
 list_free brace = (refl, refl, refl, refl)
 

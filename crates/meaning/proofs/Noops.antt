@@ -9,7 +9,7 @@ use native.Mathlib.Omega.{arith}
 use lib.ListN.{drop}
 use lib.Dec.{ltb, eqb}
 use Rattle.format.specs.Grammars.{Grammar}
-use Rattle.format.specs.Conditions.{if◌then◌else◌, among, all}
+use Rattle.format.specs.Conditions.{when◌then◌else◌, among, all}
 use Rattle.format.specs.Marks.{Opening, bracket, brace, opens, width, integers, types, is_type, is_scalar, is_plain_leaf, 'E', 'F', 'H', 'N', 'S', 'T', 'U', 'Z', 'm', 'u', '#', '$', '[', left_brace}
 use Rattle.format.specs.Tokens.{Kind, scalar, text, high_precision, key, array, object, packed, table, leaf, schema_record, fixed_array, dimension, extension, Token, is_kind, Forest, none, node, ◌⊕◌}
 use Rattle.format.specs.Records.{at_offset, placed}
@@ -37,10 +37,10 @@ house_end_to_end m (node t below after) = ap (λ x. token m t.kind t (written m 
 
 -- the smallest mark isn't `N`
 small_other : (n : ℕ) → smallest n ≡ 'N' → ⊥
-unfolding smallest if◌then◌else◌
+unfolding smallest when◌then◌else◌
 small_other n = go (ltb n (256 ^ width 'U')) (ltb n (256 ^ width 'u'))
   where
-    go : (b c : Bool) → (if b then 'U' else if c then 'u' else 'm') ≡ 'N' → ⊥
+    go : (b c : Bool) → (when b then 'U' else when c then 'u' else 'm') ≡ 'N' → ⊥
     go true c e = omega arith
     go false true e = omega arith
     go false false e = omega arith
@@ -88,7 +88,7 @@ marked_append (a_token o b a) q = a_token o b (marked_append a q)
 
 -- at their offsets too
 marked_placed : {f : Forest} (at : ℕ) → Marked f → Marked (placed at f)
-unfolding placed at_offset if◌then◌else◌
+unfolding placed at_offset when◌then◌else◌
 marked_placed at no_token = no_token
 marked_placed at (a_token {t = t} {below = b} {after = c} o u r) = go (is_kind key t.kind) (marked_placed at u) (marked_placed at r) (marked_placed (at + t.extent) r)
   where
@@ -97,7 +97,7 @@ marked_placed at (a_token {t = t} {below = b} {after = c} o u r) = go (is_kind k
     moved (by_dimension d) = by_dimension d
 
     go : (x : Bool) → Marked (placed at b) → Marked (placed at c) → Marked (placed (at + t.extent) c)
-        → Marked (if x then node t b (placed at c) else node (at_offset at t) (placed at b) (placed (at + t.extent) c))
+        → Marked (when x then node t b (placed at c) else node (at_offset at t) (placed at b) (placed (at + t.extent) c))
     go true p q v = a_token o u q
     go false p q v = a_token (moved o) p v
 

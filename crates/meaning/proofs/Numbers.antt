@@ -7,7 +7,7 @@ use native.Mathlib.Omega.{arith}
 use native.Mathlib.Nat.{div-add-mod, pow-suc}
 use lib.Dec.{leb, ltb}
 use borrow.Author.Tests.{ltb-true, leb-true, lt-ltb}
-use Rattle.format.specs.Conditions.{if◌then◌else◌, among, all}
+use Rattle.format.specs.Conditions.{when◌then◌else◌, among, all}
 use Rattle.format.specs.Limits.{limit}
 use Rattle.format.specs.Marks.{width, 'U', 'u', 'm'}
 use Rattle.format.specs.Bytes.{little}
@@ -32,10 +32,10 @@ abbrev pub small_marks : List ℕ
 small_marks = 'U' ∷ 'u' ∷ 'm' ∷ []
 
 smallest-among : (n : ℕ) → among small_marks (smallest n) ≡ true
-unfolding smallest among if◌then◌else◌
+unfolding smallest among when◌then◌else◌
 smallest-among n = go (ltb n _) (ltb n _)
   where
-    go : (x y : Bool) → among small_marks (if x then 'U' else if y then 'u' else 'm') ≡ true
+    go : (x y : Bool) → among small_marks (when x then 'U' else when y then 'u' else 'm') ≡ true
     go true y = refl
     go false true = refl
     go false false = refl
@@ -46,10 +46,10 @@ smallest_passes p n h = among_passes p small_marks (smallest n) h (smallest-amon
 
 -- it holds the number
 pub smallest_holds : (n : ℕ) → n ≤ limit → n < 256 ^ width (smallest n)
-unfolding smallest width among if◌then◌else◌
+unfolding smallest width among when◌then◌else◌
 smallest_holds n h = go (ltb n (256 ^ 1)) (ltb n (256 ^ 2)) refl refl
   where
-    go : (x y : Bool) → ltb n (256 ^ 1) ≡ x → ltb n (256 ^ 2) ≡ y → n < 256 ^ width (if x then 'U' else if y then 'u' else 'm')
+    go : (x y : Bool) → ltb n (256 ^ 1) ≡ x → ltb n (256 ^ 2) ≡ y → n < 256 ^ width (when x then 'U' else when y then 'u' else 'm')
     go true y e f = omega (arith, ltb-true)
     go false true e f = omega (arith, ltb-true)
     go false false e f = omega arith
@@ -59,11 +59,11 @@ abbrev NoNarrower : ℕ → ℕ → ℕ → Bool
 NoNarrower n small k = leb (width small) (width k) || not (ltb n (256 ^ width k))
 
 no_narrower : (n : ℕ) → all (NoNarrower n (smallest n)) small_marks ≡ true
-unfolding smallest width all among if◌then◌else◌
+unfolding smallest width all among when◌then◌else◌
 no_narrower n = go (ltb n (256 ^ 1)) (ltb n (256 ^ 2))
   where
     test : Bool → Bool → ℕ → Bool → Bool
-    test x y w z = leb (width (if x then 'U' else if y then 'u' else 'm')) w || not z
+    test x y w z = leb (width (when x then 'U' else when y then 'u' else 'm')) w || not z
 
     go : (x y : Bool) → (test x y 1 x && (test x y 2 y && (test x y 4 (ltb n (256 ^ 4)) && true))) ≡ true
     go true y = refl

@@ -4,7 +4,7 @@ use mathlib.Core.Path.{◌≡◌, refl, sym, ap, ap₂, ◌∙◌}
 use mathlib.Core.Bool.{Bool, true, false, false≢true}
 use mathlib.Core.List.{List, [], ◌∷◌, ◌++◌, map, map-append}
 use native.Mathlib.Omega.{arith}
-use Rattle.format.specs.Conditions.{if◌then◌else◌, among}
+use Rattle.format.specs.Conditions.{when◌then◌else◌, among}
 use Rattle.format.specs.Tokens.{Kind, kind_number, scalar, text, high_precision, key, array, object, packed, table, leaf, schema_record, fixed_array, dimension, extension, Token, Forest, none, node, size, ◌⊕◌, members, counts}
 use Rattle.format.specs.Rows.{Ancestry, held_by, layout, row_of, rows}
 use Rattle.format.specs.Extensions.{id_bytes}
@@ -36,7 +36,7 @@ pub data Same (m h : List ℕ) : Forest → Forest → Type 0 where
 
 -- the first byte may always differ
 first_free : (kind : Kind) → among (free (kind_number kind)) 2 ≡ true
-unfolding free among if◌then◌else◌
+unfolding free among when◌then◌else◌
 first_free scalar = refl
 first_free text = refl
 first_free high_precision = refl
@@ -52,13 +52,13 @@ first_free dimension = refl
 first_free extension = refl
 
 -- a word that may differ, or is the same
-word_kept : (b : Bool) (v w : ℕ) → (b ≡ false → w ≡ v) → (if b then 0 else v) ≡ (if b then 0 else w)
-unfolding if◌then◌else◌
+word_kept : (b : Bool) (v w : ℕ) → (b ≡ false → w ≡ v) → (when b then 0 else v) ≡ (when b then 0 else w)
+unfolding when◌then◌else◌
 word_kept true v w e = refl
 word_kept false v w e = sym (e refl)
 
-bytes_kept : (b : Bool) (x y : List ℕ) → (b ≡ true → y ≡ x) → (if b then x else []) ≡ (if b then y else [])
-unfolding if◌then◌else◌
+bytes_kept : (b : Bool) (x y : List ℕ) → (b ≡ true → y ≡ x) → (when b then x else []) ≡ (when b then y else [])
+unfolding when◌then◌else◌
 bytes_kept true x y e = sym (e refl)
 bytes_kept false x y e = refl
 
@@ -119,7 +119,7 @@ module _ (m h : List ℕ) where
   -- ---- how they are written
 
   token_same : (kind : Kind) (t u : Token) (under : Written) → Alike m h kind t u → token h kind u under ≡ token m kind t under
-  unfolding token free has_bytes among if◌then◌else◌
+  unfolding token free has_bytes among when◌then◌else◌
   token_same scalar t u under a = rw (a.contents refl, a.marks refl)
   token_same text t u under a = rw (a.contents refl, a.marks refl, a.extents refl)
   token_same high_precision t u under a = rw (a.contents refl, a.marks refl, a.extents refl)

@@ -8,7 +8,7 @@ use lib.ListN.{get_or}
 use lib.Dec.{eqb}
 use borrow.Author.Tests.{not-true}
 use Rattle.format.specs.Grammars.{Grammar}
-use Rattle.format.specs.Conditions.{if◌then◌else◌, among, all}
+use Rattle.format.specs.Conditions.{when◌then◌else◌, among, all}
 use Rattle.format.specs.Limits.{limit, id_limit}
 use Rattle.format.specs.Marks.{Opening, is_scalar, integers, types, width, 'Z', 'T', 'F', 'S', 'H', 'E'}
 use Rattle.format.specs.Tokens.{Kind, kind_number, scalar, text, high_precision, key, array, object, packed, table, leaf, schema_record, fixed_array, dimension, extension, Forest, none, node, alone, uncounted, size}
@@ -42,7 +42,7 @@ small_begins bad n y a =
 
 -- where bytes count, the place of the payload doesn't
 place_free : (kind : Kind) → has_bytes (kind_number kind) ≡ true → Counts kind 3 → ⊥
-unfolding has_bytes free among if◌then◌else◌
+unfolding has_bytes free among when◌then◌else◌
 place_free scalar b c = false≢true (sym c)
 place_free text b c = false≢true (sym c)
 place_free high_precision b c = false≢true (sym c)
@@ -120,7 +120,7 @@ module _ (m h : List ℕ) (rows_lent : ℕ) (grammar : Grammar) (most : ℕ) (le
   extension_reads : (id at₀ start n : ℕ) → HasId m at₀ id → n ≤ limit → may_have id n ≡ true → Content m 'E' start n → (at row : ℕ) (l : List ℕ)
       → From h at ('E' ∷ (id_bytes m at₀ ++ (small_integer n ++ (bytes m start n ++ l)))) → row < rows_lent
       → Succeeds (λ r. CopyAt m h at (alone (extension_token id at₀ start n)) r.0 × From h r.1 l) (Extensions.extension h rows_lent at row)
-  unfolding Extensions.extension id_bytes payload_of has_bytes free among if◌then◌else◌
+  unfolding Extensions.extension id_bytes payload_of has_bytes free among when◌then◌else◌
   extension_reads id at₀ start n i u t c at row l e s =
       let mark : ℕ = get_or m (at₀ + 1) 0 in
       let e₁ = from_past h ('E' ∷ []) e in

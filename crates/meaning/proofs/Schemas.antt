@@ -6,7 +6,7 @@ use mathlib.Core.List.{List, [], ◌∷◌, ◌++◌, append_assoc}
 use native.Mathlib.Omega.{arith}
 use lib.Dec.{eqb}
 use Rattle.format.specs.Grammars.{Grammar}
-use Rattle.format.specs.Conditions.{if◌then◌else◌, among, all}
+use Rattle.format.specs.Conditions.{when◌then◌else◌, among, all}
 use Rattle.format.specs.Limits.{limit}
 use Rattle.format.specs.Marks.{Opening, bracket, brace, opens, closes, is_plain_leaf, integers, types, leaf_width, 'S', 'T', 'Z', '$', '['}
 use Rattle.format.specs.Tokens.{kind_number, Forest, size, ◌⊕◌}
@@ -32,12 +32,12 @@ unfolding is_plain_leaf types integers all among closers
 leaf_begins mark t = none_among (among closers) ('T' ∷ 'Z' ∷ types) mark refl t
 
 -- a leaf that is its mark alone, as it is written
-plain_written : (mark : ℕ) (x : List ℕ) → is_plain_leaf mark ≡ true → mark ∷ (if eqb mark 'S' then x else []) ≡ mark ∷ []
-unfolding is_plain_leaf types integers all if◌then◌else◌
+plain_written : (mark : ℕ) (x : List ℕ) → is_plain_leaf mark ≡ true → mark ∷ (when eqb mark 'S' then x else []) ≡ mark ∷ []
+unfolding is_plain_leaf types integers all when◌then◌else◌
 plain_written mark x t = rw (none_among (λ k. eqb k 'S') ('T' ∷ 'Z' ∷ types) mark refl t)
 
-text_written : (x : List ℕ) → 'S' ∷ (if eqb 'S' 'S' then x else []) ≡ 'S' ∷ x
-unfolding if◌then◌else◌
+text_written : (x : List ℕ) → 'S' ∷ (when eqb 'S' 'S' then x else []) ≡ 'S' ∷ x
+unfolding when◌then◌else◌
 text_written x = refl
 
 -- the bytes of a schema's tokens don't count

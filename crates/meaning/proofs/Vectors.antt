@@ -5,7 +5,7 @@ use mathlib.Core.Bool.{Bool, true, false, not, ◌&&◌, false≢true}
 use mathlib.Core.List.{List, [], ◌∷◌, ◌++◌, append_assoc, append-nil}
 use native.Mathlib.Omega.{arith}
 use lib.Dec.{eqb}
-use Rattle.format.specs.Conditions.{if◌then◌else◌, among, all}
+use Rattle.format.specs.Conditions.{when◌then◌else◌, among, all}
 use Rattle.format.specs.Limits.{limit, dimension_limit}
 use Rattle.format.specs.Marks.{'#', '$', '[', ']'}
 use Rattle.format.specs.Tokens.{plain_count, first_slowest, first_fastest, Forest, none, alone, size, ◌⊕◌, members, counts}
@@ -31,15 +31,15 @@ vector_closers = '[' ∷ closers
 -- ---- a count as it is written
 
 plain_shape : (n : ℕ) (dims : List ℕ) → shape plain_count n dims ≡ small_integer n
-unfolding shape if◌then◌else◌
+unfolding shape when◌then◌else◌
 plain_shape n dims = refl
 
 slowest_shape : (n : ℕ) (dims l : List ℕ) → shape first_slowest n dims ++ l ≡ '[' ∷ (dims ++ ']' ∷ l)
-unfolding shape if◌then◌else◌
+unfolding shape when◌then◌else◌
 slowest_shape n dims l = ap (λ x. '[' ∷ x) (append_assoc dims (']' ∷ []) l)
 
 fastest_shape : (n : ℕ) (dims l : List ℕ) → shape first_fastest n dims ++ l ≡ '[' ∷ '[' ∷ (dims ++ ']' ∷ ']' ∷ l)
-unfolding shape if◌then◌else◌
+unfolding shape when◌then◌else◌
 fastest_shape n dims l = ap (λ x. '[' ∷ '[' ∷ x) (append_assoc dims (']' ∷ ']' ∷ []) l)
 
 module _ (m h : List ℕ) (rows_lent most : ℕ) (lent : most ≤ rows_lent) where
@@ -47,7 +47,7 @@ module _ (m h : List ℕ) (rows_lent most : ℕ) (lent : most ≤ rows_lent) whe
 
   -- a dimension is a marked integer
   pub dimension_again : (mark at₀ start n : ℕ) → n ≤ limit → Reading m h most vector_closers (Dimensions.marked h rows_lent) (alone (dimension_token mark at₀ start n))
-  unfolding token Dimensions.marked Dimensions.dimension size vector_closers closers among all small_integer if◌then◌else◌ free has_bytes
+  unfolding token Dimensions.marked Dimensions.dimension size vector_closers closers among all small_integer when◌then◌else◌ free has_bytes
   dimension_again mark at₀ start n u = alone_reading m h most (rw (← append-nil (small_integer n)) (small_begins vector_closers n [] refl)) λ at row l e s.
       one_of_known h _ _ e (small_mark h n u) (row_known h rows_lent at row (omega arith) (number_known h n u at _ (from_past h (smallest n ∷ []) e) λ next e₂.
       succeeds (

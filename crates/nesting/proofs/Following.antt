@@ -8,7 +8,7 @@ use Rattle.format.specs.Grammars.{Grammar}
 use Rattle.format.specs.Limits.{limit}
 use Rattle.format.specs.Outcome.{Parsed, done, fault}
 use Rattle.format.specs.Marks.{Opening, bracket, brace, opens, closes, is_scalar, types, integers, 'N'}
-use Rattle.format.specs.Conditions.{if◌then◌else◌, among}
+use Rattle.format.specs.Conditions.{when◌then◌else◌, among}
 use Rattle.format.specs.Tokens.{Forest, size, members}
 use Rattle.format.specs.Rows.{Ancestry, outermost, rows}
 use Rattle.format.specs.Bytes.{skip}
@@ -160,7 +160,7 @@ plus_small (Next end row more) start at high lent k h l b w = omega arith
 
 module _ (m : List ℕ) (lent : ℕ) (grammar : Grammar) (levels at row : ℕ) where
   begun : (inner : Opening) → at < length m → get_or m at 0 ≡ opens inner → value_by m lent grammar (nested m lent grammar levels) at row ≡ nested m lent grammar levels inner at row
-  unfolding opens class is_scalar types integers among value_on if◌then◌else◌
+  unfolding opens class is_scalar types integers among value_on when◌then◌else◌
   begun bracket h e = value_begins m lent grammar _ at row opens_bracket h (rw e)
   begun brace h e = value_begins m lent grammar _ at row opens_brace h (rw e)
 

@@ -8,7 +8,7 @@ use mathlib.Core.Logic.{inr}
 use native.Mathlib.Omega.{arith}
 use lib.ListN.{length}
 use lib.Dec.{eqb}
-use Rattle.format.specs.Conditions.{if◌then◌else◌}
+use Rattle.format.specs.Conditions.{when◌then◌else◌}
 use Rattle.format.specs.Outcome.{Outcome, fault, done, ◌>>=◌}
 use Rattle.format.specs.Tokens.{Token, table as kind_of_table, is_kind, Forest, none, node, below_first}
 use Rattle.format.specs.Records.{total_width}
@@ -37,19 +37,19 @@ use Rattle.panel.specs.Layout.{slot_parts}
 
 -- a slot that is taken ends by the end of all
 taken_inside : (leaf_row number end : ℕ) {ss : List (Slot ℕ)} {s : Slot ℕ} → Inside end ss → slot_for leaf_row number ss ≡ done s → s.offset + s.wide ≤ end
-unfolding slot_for if◌then◌else◌
+unfolding slot_for when◌then◌else◌
 taken_inside leaf_row number end nil e = let z : ◌≡◌ {A = ℕ} 0 1 = cc in absurd (omega arith)
 taken_inside leaf_row number end {s = s} (slot {s = x} {ss = ss} h i) e =
     go (eqb x.leaf_row leaf_row && eqb x.element number) (taken_inside leaf_row number end i) e
   where
-    go : (b : Bool) → (slot_for leaf_row number ss ≡ done s → s.offset + s.wide ≤ end) → (if b then done x else slot_for leaf_row number ss) ≡ done s → s.offset + s.wide ≤ end
+    go : (b : Bool) → (slot_for leaf_row number ss ≡ done s → s.offset + s.wide ≤ end) → (when b then done x else slot_for leaf_row number ss) ≡ done s → s.offset + s.wide ≤ end
     go true k q = let y : x ≡ s = cc in subst (λ (z : Slot ℕ). z.offset + z.wide ≤ end) y h
     go false k q = k q
 
 -- the slots of a table by record lie inside its payload
 table_inside : (row : ℕ) (t s : Token) (members dimensions : Forest) → IsTable t s members dimensions
     → Inside t.extent (slots_of row t (node s members dimensions) (below t.count))
-unfolding slots_of is_kind if◌then◌else◌ below_first
+unfolding slots_of is_kind when◌then◌else◌ below_first
 table_inside row t s members dimensions ok =
     let w : t.extent ≡ length (below t.count) * total_width members =
     ok.extent_is ∙ rw (ok.width_is, length_count 0 t.count) in

@@ -8,7 +8,7 @@ use mathlib.Core.Logic.{inl, inr}
 use native.Mathlib.Omega.{arith}
 use lib.Dec.{eqb}
 use borrow.Author.Tests.{eqb-true, eqb-false}
-use Rattle.format.specs.Conditions.{if◌then◌else◌}
+use Rattle.format.specs.Conditions.{when◌then◌else◌}
 use Rattle.format.specs.Outcome.{Outcome, fault, done}
 use Rattle.format.specs.Refusals.{not_there}
 use Rattle.format.specs.Marks.{Opening, opens}
@@ -33,7 +33,7 @@ pub data Looked (leaf_row r : ℕ) (l : List (Slot ℕ)) : Outcome (Slot ℕ) �
   nowhere : ((s : Slot ℕ) → Memᴰ s l → s.leaf_row ≡ leaf_row → s.element ≡ r → ⊥) → Looked leaf_row r l (fault not_there 0)
 
 pub looked : (leaf_row r : ℕ) (l : List (Slot ℕ)) → Looked leaf_row r l (slot_for leaf_row r l)
-unfolding slot_for if◌then◌else◌
+unfolding slot_for when◌then◌else◌
 looked leaf_row r [] = nowhere λ s m. absurd (Memᴰ.not-nil m)
 looked leaf_row r (s ∷ l) = go (eqb s.leaf_row leaf_row) (eqb s.element r) refl refl (looked leaf_row r l)
   where
@@ -43,7 +43,7 @@ looked leaf_row r (s ∷ l) = go (eqb s.leaf_row leaf_row) (eqb s.element r) ref
     later c (nowhere h) = nowhere λ x m e q. elim (Memᴰ.cases_cons m) [ inl i ↦ c (ap (λ (y : Slot ℕ). y.leaf_row) (sym i) ∙ e) (ap (λ (y : Slot ℕ). y.element) (sym i) ∙ q) | inr k ↦ h x k e q ]
 
     go : (a b : Bool) → eqb s.leaf_row leaf_row ≡ a → eqb s.element r ≡ b → Looked leaf_row r l (slot_for leaf_row r l)
-        → Looked leaf_row r (s ∷ l) (if a && b then done s else slot_for leaf_row r l)
+        → Looked leaf_row r (s ∷ l) (when a && b then done s else slot_for leaf_row r l)
     go true true e q k = found (Memᴰ.head refl) (eqb-true _ _ e) (eqb-true _ _ q)
     go true false e q k = later (λ _ c. eqb-false _ _ q c) k
     go false b e q k = later (λ c _. eqb-false _ _ e c) k
@@ -52,7 +52,7 @@ looked leaf_row r (s ∷ l) = go (eqb s.leaf_row leaf_row) (eqb s.element r) ref
 
 pub table_slots : {A : Type 0} (row : ℕ) (t : Token) (under f : Forest) (o : Opening) (l : List A) → t.kind ≡ kind_of_table → t.mark ≡ opens o → below_first under ≡ f
     → slots_of row t under l ≡ records o (member_row row) f l
-unfolding slots_of is_kind if◌then◌else◌
+unfolding slots_of is_kind when◌then◌else◌
 table_slots row t under f o l k m b = rw (k, m, b, layout_is o)
 
 module _ (o : Opening) (n many r : ℕ) {f : Forest} (p : Placed 0 f) where

@@ -8,7 +8,7 @@ use mathlib.Core.Logic.{inl, inr}
 use native.Mathlib.Omega.{arith}
 use lib.ListN.{length}
 use borrow.Author.Tests.{eqb-true}
-use Rattle.format.specs.Conditions.{if◌then◌else◌}
+use Rattle.format.specs.Conditions.{when◌then◌else◌}
 use Rattle.format.specs.Outcome.{fault, done}
 use Rattle.format.specs.Refusals.{not_there}
 use Rattle.format.specs.Tokens.{Token, table as kind_of_table, leaf as kind_of_leaf, kind_number, is_kind, Forest, none, node, size, below_first}
@@ -55,7 +55,7 @@ pub record IsTableAt (n : ℕ) (f : Forest) (t : Table) : Type 0 where
   pub is_table : t.token.kind ≡ kind_of_table
 
 tables_at : (n : ℕ) (f : Forest) (t : Table) → Memᴰ t (tables n f) → IsTableAt n f t
-unfolding tables is_kind if◌then◌else◌
+unfolding tables is_kind when◌then◌else◌
 tables_at n none t m = absurd (Memᴰ.not-nil m)
 tables_at n (node u below after) t m = go (is_kind kind_of_table u.kind) refl (tables_at (suc n) below t) (tables_at (suc n + size below) after t) m
   where
@@ -70,7 +70,7 @@ tables_at n (node u below after) t m = go (is_kind kind_of_table u.kind) refl (t
 
     go : (b : Bool) → is_kind kind_of_table u.kind ≡ b → (Memᴰ t (tables (suc n) below) → IsTableAt (suc n) below t)
         → (Memᴰ t (tables (suc n + size below) after) → IsTableAt (suc n + size below) after t)
-        → Memᴰ t ((if b then record { row = n; token = u; under = below } ∷ [] else tables (suc n) below) ++ tables (suc n + size below) after)
+        → Memᴰ t ((when b then record { row = n; token = u; under = below } ∷ [] else tables (suc n) below) ++ tables (suc n + size below) after)
         → IsTableAt n (node u below after) t
     go true e h k m = elim (Memᴰ.append_cases (record { row = n; token = u; under = below } ∷ []) m) [ inl i ↦ own e (Memᴰ.eq_of_singleton i) | inr i ↦ beyond (k i) ]
     go false e h k m = elim (Memᴰ.append_cases (tables (suc n) below) m) [ inl i ↦ inside (h i) | inr i ↦ beyond (k i) ]

@@ -9,7 +9,7 @@ use lib.ListN.{length, set, take, drop, get_or, length-set, length-take, length-
 use lib.Dec.{eqb}
 use borrow.Author.Tests.{lt-ltb, le-ltb}
 use lib.Seq.{sets, length-sets, length-take-le, take_all, take-suc}
-use Rattle.format.specs.Conditions.{if◌then◌else◌, among}
+use Rattle.format.specs.Conditions.{when◌then◌else◌, among}
 use Rattle.format.specs.Marks.{width, 'U', 'u', 'm', ']'}
 use Rattle.format.specs.Tokens.{plain_count, first_slowest}
 use Rattle.format.specs.Bytes.{bytes}
@@ -95,15 +95,15 @@ going_end (suc k) rest e g = absurd (omega arith)
 
 -- the mark that holds a number
 pub in_one : (n : ℕ) → n < 256 → smallest n ≡ 'U'
-unfolding smallest width among if◌then◌else◌
+unfolding smallest width among when◌then◌else◌
 in_one n h = rw (lt-ltb n 256 h) refl
 
 pub in_two : (n : ℕ) → 256 ≤ n → n < 65536 → smallest n ≡ 'u'
-unfolding smallest width among if◌then◌else◌
+unfolding smallest width among when◌then◌else◌
 in_two n h k = rw (le-ltb n 256 h, lt-ltb n 65536 k) refl
 
 pub in_four : (n : ℕ) → 65536 ≤ n → smallest n ≡ 'm'
-unfolding smallest width among if◌then◌else◌
+unfolding smallest width among when◌then◌else◌
 in_four n h = rw (le-ltb n 256 (omega arith), le-ltb n 65536 h) refl
 
 -- a number under the smallest mark
@@ -125,10 +125,10 @@ id_few m first =
 
 -- a shape ends in two bytes at most
 pub end_few : (order : ℕ) → length (shape_end order) ≤ 2
-unfolding shape_end if◌then◌else◌
+unfolding shape_end when◌then◌else◌
 end_few order = go (eqb order plain_count) (eqb order first_slowest)
   where
-    go : (b c : Bool) → length (if b then [] else if c then ']' ∷ [] else ']' ∷ ']' ∷ []) ≤ 2
+    go : (b c : Bool) → length (when b then [] else when c then ']' ∷ [] else ']' ∷ ']' ∷ []) ≤ 2
     go true c = omega arith
     go false true = omega arith
     go false false = omega arith

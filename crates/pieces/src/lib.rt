@@ -5,7 +5,7 @@
 pub mod bytes;
 
 ghost use Rattle.std.specs.Prelude.{[], ◌∷◌, ◌++◌, ◌<◌, ◌^◌, eqb};
-ghost use Rattle.format.specs.Conditions.{if◌then◌else◌};
+ghost use Rattle.format.specs.Conditions.{when◌then◌else◌};
 ghost use Rattle.format.specs.Marks.{'#', 'S'};
 ghost use Rattle.format.specs.HouseForm.{small_integer};
 ghost use Rattle.pieces.specs.Puts.{Puts};
@@ -54,7 +54,7 @@ pub fn put_counted(output: &mut [u8], at: usize, mark: u8, count: u32) -> usize
 // A schema leaf: its mark, and the width of a text.
 pub fn put_leaf(output: &mut [u8], at: usize, mark: u8, wide: u32) -> usize
     requires { at < 2 ^ 60 }
-    ensures { Puts output.old output.new at result (mark ∷ (if eqb mark 'S' then small_integer wide else [])) }
+    ensures { Puts output.old output.new at result (mark ∷ (when eqb mark 'S' then small_integer wide else [])) }
 {
     let next = put(output, at, mark);
     if mark != Mark::TEXT {

@@ -5,7 +5,7 @@ use mathlib.Core.Bool.{true}
 use mathlib.Core.List.{List}
 use native.Mathlib.Omega.{arith}
 use lib.ListN.{length, get_or}
-use Rattle.format.specs.Conditions.{if◌then◌else◌}
+use Rattle.format.specs.Conditions.{when◌then◌else◌}
 use Rattle.format.specs.Outcome.{Outcome, done}
 use Rattle.format.specs.Limits.{record_limit}
 use Rattle.format.specs.Marks.{brace, closes}
@@ -48,7 +48,7 @@ module _ (t : Token) (u g : Forest) (offset : ℕ) (seen : Seen) (field span : �
 
   -- a key before it changes nothing
   behind : (k : Token) → k.kind ≡ kind_of_key → in_fields (node k none (node t u none) ⊕ g) offset seen field span ≡ in_fields (node t u none ⊕ g) offset seen field span
-  unfolding in_fields past ◌⊕◌ member_width is_kind if◌then◌else◌
+  unfolding in_fields past ◌⊕◌ member_width is_kind when◌then◌else◌
   behind k e = let z : offset + 0 ≡ offset = omega arith in rw (e, z, latest_twice seen offset offset field, latest_twice seen _ 0 span)
 
   pub fields_member : {f : Forest} → Unkeyed f (node t u none) → in_fields (f ⊕ g) offset seen field span

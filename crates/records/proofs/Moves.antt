@@ -7,7 +7,7 @@ use native.Mathlib.Omega.{arith}
 use lib.ListN.{length}
 use lib.Dec.{eqb}
 use borrow.Author.Tests.{lt-ltb}
-use Rattle.format.specs.Conditions.{if◌then◌else◌}
+use Rattle.format.specs.Conditions.{when◌then◌else◌}
 use Rattle.format.specs.Outcome.{Outcome, fault, done, ◌>>=◌, ◌>>◌, guard}
 use Rattle.format.specs.Marks.{is_integer, '#', '[', ']'}
 use Rattle.format.specs.Tokens.{Forest, size}
@@ -33,8 +33,8 @@ unfolding ◌>>◌
 then_moves (fault n p) r r' e h = e
 then_moves (done tt) r r' e h = h e
 
-if_moves : {B : Type 0} (t : Bool) (x y x' y' : Outcome B) {b : B} → (if t then x else y) ≡ done b → (x ≡ done b → x' ≡ done b) → (y ≡ done b → y' ≡ done b) → (if t then x' else y') ≡ done b
-unfolding if◌then◌else◌
+if_moves : {B : Type 0} (t : Bool) (x y x' y' : Outcome B) {b : B} → (when t then x else y) ≡ done b → (x ≡ done b → x' ≡ done b) → (y ≡ done b → y' ≡ done b) → (when t then x' else y') ≡ done b
+unfolding when◌then◌else◌
 if_moves true x y x' y' e h k = h e
 if_moves false x y x' y' e h k = k e
 
@@ -104,9 +104,9 @@ module _ (m : List ℕ) (lent lent' : ℕ) where
       rw (vector_moves at (at + 1) row row' x.0.1 x.0.0 x.1 (omega arith)) x.2
 
   -- a table's count, which isn't wrapped
-  unwrapped_moves : (t : Bool) (at row row' start : ℕ) (n : Shape) → (if t && false then fastest m lent at row else slowest m lent at row) ≡ done (n, start) → row' + size n.dimensions ≤ lent'
-      → (if t && false then fastest m lent' at row' else slowest m lent' at row') ≡ done (n, start)
-  unfolding if◌then◌else◌
+  unwrapped_moves : (t : Bool) (at row row' start : ℕ) (n : Shape) → (when t && false then fastest m lent at row else slowest m lent at row) ≡ done (n, start) → row' + size n.dimensions ≤ lent'
+      → (when t && false then fastest m lent' at row' else slowest m lent' at row') ≡ done (n, start)
+  unfolding when◌then◌else◌
   unwrapped_moves true at row row' start n e h = slowest_moves at row row' start n e h
   unwrapped_moves false at row row' start n e h = slowest_moves at row row' start n e h
 

@@ -4,7 +4,7 @@ use mathlib.Core.Path.{◌≡◌, refl, sym, ◌∙◌, ap}
 use mathlib.Core.Bool.{Bool, true, false}
 use mathlib.Core.List.{List, [], ◌∷◌, ◌++◌, map, append-nil, Memᴰ}
 use native.Mathlib.Omega.{arith}
-use Rattle.format.specs.Conditions.{if◌then◌else◌}
+use Rattle.format.specs.Conditions.{when◌then◌else◌}
 use Rattle.format.specs.Outcome.{Outcome, fault, done}
 use Rattle.format.specs.Refusals.{not_there}
 use Rattle.format.specs.Tokens.{Token, key as kind_of_key, leaf as kind_of_leaf, is_kind, Forest, none, node, size}
@@ -24,27 +24,27 @@ abbrev SamePast : Forest → Forest → Type 0
 SamePast f g = (offset : ℕ) (seen : Seen) → past f offset seen ≡ past g offset seen
 
 pub past-placed : (k : ℕ) (f : Forest) (offset : ℕ) (seen : Seen) → past (placed k f) offset seen ≡ past f offset seen
-unfolding past placed at_offset member_width if◌then◌else◌
+unfolding past placed at_offset member_width when◌then◌else◌
 past-placed k none offset seen = refl
 past-placed k (node t below after) offset seen = go (is_kind kind_of_key t.kind) refl (past-placed k after) (past-placed (k + t.extent) after) (past-placed k below)
   where
     go : (b : Bool) → is_kind kind_of_key t.kind ≡ b → SamePast (placed k after) after → SamePast (placed (k + t.extent) after) after → SamePast (placed k below) below
-        → past (if b then node t below (placed k after) else node (at_offset k t) (placed k below) (placed (k + t.extent) after)) offset seen ≡ past (node t below after) offset seen
+        → past (when b then node t below (placed k after) else node (at_offset k t) (placed k below) (placed (k + t.extent) after)) offset seen ≡ past (node t below after) offset seen
     go true e p q r = p _ _
-    go false e p q r = q _ _ ∙ ap (λ (s : Seen). past after (offset + member_width t) (if is_kind kind_of_leaf t.kind then passed seen offset t.extent else s)) (r offset seen)
+    go false e p q r = q _ _ ∙ ap (λ (s : Seen). past after (offset + member_width t) (when is_kind kind_of_leaf t.kind then passed seen offset t.extent else s)) (r offset seen)
 
 abbrev SameFields : Forest → Forest → Type 0
 SameFields f g = (offset : ℕ) (seen : Seen) (field span : ℕ) → in_fields f offset seen field span ≡ in_fields g offset seen field span
 
 pub fields_placed : (k : ℕ) (f : Forest) (offset : ℕ) (seen : Seen) (field span : ℕ) → in_fields (placed k f) offset seen field span ≡ in_fields f offset seen field span
-unfolding in_fields past placed at_offset member_width if◌then◌else◌
+unfolding in_fields past placed at_offset member_width when◌then◌else◌
 fields_placed k none offset seen field span = refl
 fields_placed k (node t below after) offset seen field span = go (is_kind kind_of_key t.kind) refl (fields_placed k after) (fields_placed (k + t.extent) after) (past-placed k below)
   where
     go : (b : Bool) → is_kind kind_of_key t.kind ≡ b → SameFields (placed k after) after → SameFields (placed (k + t.extent) after) after → SamePast (placed k below) below
-        → in_fields (if b then node t below (placed k after) else node (at_offset k t) (placed k below) (placed (k + t.extent) after)) offset seen field span ≡ in_fields (node t below after) offset seen field span
+        → in_fields (when b then node t below (placed k after) else node (at_offset k t) (placed k below) (placed (k + t.extent) after)) offset seen field span ≡ in_fields (node t below after) offset seen field span
     go true e p q r = p _ _ _ _
-    go false e p q r = q _ _ _ _ ∙ ap (λ (s : Seen). in_fields after (offset + member_width t) (if is_kind kind_of_leaf t.kind then passed seen offset t.extent else s) (latest seen offset field) (latest seen (member_width t) span)) (r offset seen)
+    go false e p q r = q _ _ _ _ ∙ ap (λ (s : Seen). in_fields after (offset + member_width t) (when is_kind kind_of_leaf t.kind then passed seen offset t.extent else s) (latest seen offset field) (latest seen (member_width t) span)) (r offset seen)
 
 -- ---- the leaves in schema order
 
@@ -64,15 +64,15 @@ past_found [] offset wide = refl
 past_found (s ∷ l) offset wide = past_found l offset wide
 
 past-leaves : (n : ℕ) (f : Forest) (offset : ℕ) (seen : Seen) → past f offset seen ≡ past_leaves (leaves n f 0 offset) seen
-unfolding past leaves past_leaves if◌then◌else◌
+unfolding past leaves past_leaves when◌then◌else◌
 past-leaves n none offset seen = refl
 past-leaves n (node t below after) offset seen =
     rw (past_both, past-leaves (suc n + size below) after (offset + member_width t))
     (ap (past_leaves (leaves (suc n + size below) after 0 (offset + member_width t))) (go (is_kind kind_of_leaf t.kind) (past-leaves (suc n) below offset seen)))
   where
     go : (b : Bool) → past below offset seen ≡ past_leaves (leaves (suc n) below 0 offset) seen
-        → (if b then passed seen offset t.extent else past below offset seen)
-        ≡ past_leaves (if b then record { leaf_row = n; element = 0; mark = t.mark; offset = offset; wide = t.extent } ∷ [] else leaves (suc n) below 0 offset) seen
+        → (when b then passed seen offset t.extent else past below offset seen)
+        ≡ past_leaves (when b then record { leaf_row = n; element = 0; mark = t.mark; offset = offset; wide = t.extent } ∷ [] else leaves (suc n) below 0 offset) seen
     go true e = refl
     go false e = e
 

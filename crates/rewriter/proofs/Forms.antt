@@ -6,7 +6,7 @@ use mathlib.Core.List.{List, [], ◌∷◌, ◌++◌, append-nil, append_assoc}
 use native.Mathlib.Omega.{arith}
 use lib.Dec.{eqb, ltb}
 use borrow.Author.Tests.{lt-ltb, ltb-true, eqb-true}
-use Rattle.format.specs.Conditions.{if◌then◌else◌, among, all}
+use Rattle.format.specs.Conditions.{when◌then◌else◌, among, all}
 use Rattle.format.specs.Marks.{Opening, bracket, brace, opens, closes, integers, types, is_type, is_scalar, is_plain_leaf, is_leaf, letter_of, 'E', 'F', 'H', 'S', 'T', 'Z', '[', ']', '#', '$'}
 use Rattle.format.specs.Tokens.{Kind, kind_number, scalar, text, high_precision, key, array, object, packed, table, leaf, schema_record, fixed_array, dimension, extension, Token, first_slowest, Forest, none, ◌⊕◌}
 use Rattle.format.specs.Records.{at_offset, placed}
@@ -31,7 +31,7 @@ use Rattle.forests.specs.Formed.{Single, Around, Tabular, Formed, no_token, a_si
 
 -- a byte is its own letter
 letter_is : (mark : ℕ) → mark < 256 → letter_of mark ≡ mark
-unfolding letter_of if◌then◌else◌
+unfolding letter_of when◌then◌else◌
 letter_is mark h = rw (lt-ltb mark 256 h)
 
 -- the marks are bytes
@@ -71,11 +71,11 @@ extension_byte = omega arith
 
 -- a dimension is written without its mark
 dimension_form : (t : Token) → t.kind ≡ dimension → Single t
-unfolding is_single among token single row_of if◌then◌else◌
+unfolding is_single among token single row_of when◌then◌else◌
 dimension_form t e = record { alone = rw e; form = λ m link ancestry. rw e }
 
 single_form : (t : Token) (k : Kind) → t.kind ≡ k → is_single (kind_number k) ≡ true → t.mark < 256 → Single t
-unfolding is_single among token payload_of single payload_at row_of if◌then◌else◌
+unfolding is_single among token payload_of single payload_at row_of when◌then◌else◌
 single_form t scalar e s b = record { alone = rw e s; form = λ m link ancestry. rw (e, letter_is t.mark b) }
 single_form t text e s b = record { alone = rw e s; form = λ m link ancestry. rw (e, letter_is t.mark b) }
 single_form t high_precision e s b = record { alone = rw e s; form = λ m link ancestry. rw (e, letter_is t.mark b) }
@@ -93,34 +93,34 @@ single_form t fixed_array e s b = absurd (false≢true s)
 -- ---- around those below them
 
 open_byte : (o : Opening) → letter_of (opens o) ≡ opens o
-unfolding letter_of opens if◌then◌else◌
+unfolding letter_of opens when◌then◌else◌
 open_byte bracket = refl
 open_byte brace = refl
 
 list_form : (o : Opening) (t : Token) (below : Forest) → t.kind ≡ Containers.container_kind o → t.mark ≡ opens o → Around t below
-unfolding Containers.container_kind is_single is_list among token head tail row_of house opens if◌then◌else◌
+unfolding Containers.container_kind is_single is_list among token head tail row_of house opens when◌then◌else◌
 list_form bracket t below e q = record { not_alone = rw e; no_table = rw e; form = λ m link ancestry. rw (e, q, open_byte bracket) (sym (append-nil (opens bracket ∷ '#' ∷ small_integer t.count ++ house m below))) }
 list_form brace t below e q = record { not_alone = rw e; no_table = rw e; form = λ m link ancestry. rw (e, q, open_byte brace) (sym (append-nil (opens brace ∷ '#' ∷ small_integer t.count ++ house m below))) }
 
 group_form : (o : Opening) (t : Token) (below : Forest) → t.kind ≡ group_kind o → t.mark ≡ opens o → Around t below
-unfolding is_single is_list among token head tail row_of house opens closes if◌then◌else◌
+unfolding is_single is_list among token head tail row_of house opens closes when◌then◌else◌
 group_form bracket t below e q = record { not_alone = rw e; no_table = rw e; form = λ m link ancestry. rw (e, q, open_byte bracket) }
 group_form brace t below e q = record { not_alone = rw e; no_table = rw e; form = λ m link ancestry. rw (e, q, open_byte brace) }
 
 -- an extension has none below it, and is written around them all the same
 extension_form : (t : Token) → t.kind ≡ extension → t.mark < 256 → Around t none
-unfolding is_single is_list among token payload_of head tail payload_at row_of house written whole if◌then◌else◌
+unfolding is_single is_list among token payload_of head tail payload_at row_of house written whole when◌then◌else◌
 extension_form t e b = record { not_alone = rw e; no_table = rw e; form = λ m link ancestry. rw (e, letter_is t.mark b) (ap (λ l. t.mark ∷ l) (append_assoc (id_bytes m t.first) (small_integer t.extent) (payload_of m t))) }
 
 -- a shape is what stands before its dimensions, these, and what stands after them
 in_brackets : (b : Bool) (dims : List ℕ)
-    → (if b then '[' ∷ dims ++ ']' ∷ [] else '[' ∷ '[' ∷ dims ++ ']' ∷ ']' ∷ []) ≡ (if b then '[' ∷ [] else '[' ∷ '[' ∷ []) ++ dims ++ (if b then ']' ∷ [] else ']' ∷ ']' ∷ [])
-unfolding if◌then◌else◌
+    → (when b then '[' ∷ dims ++ ']' ∷ [] else '[' ∷ '[' ∷ dims ++ ']' ∷ ']' ∷ []) ≡ (when b then '[' ∷ [] else '[' ∷ '[' ∷ []) ++ dims ++ (when b then ']' ∷ [] else ']' ∷ ']' ∷ [])
+unfolding when◌then◌else◌
 in_brackets true dims = refl
 in_brackets false dims = refl
 
 shape_parts : {highest order n : ℕ} {f : Forest} → Shaped highest order n f → (m : List ℕ) → shape order n (house m f) ≡ shape_start order n ++ house m f ++ shape_end order
-unfolding shape shape_start shape_end house written whole if◌then◌else◌
+unfolding shape shape_start shape_end house written whole when◌then◌else◌
 shape_parts {n = n} plain m = sym (append-nil (small_integer n ++ []) ∙ append-nil (small_integer n))
 shape_parts {order = order} {f = f} (vector e h v) m = rw e (in_brackets (eqb order first_slowest) (house m f))
 
@@ -128,7 +128,7 @@ regroup : (x a d e p : List ℕ) → x ++ (a ++ d ++ e) ++ p ≡ x ++ a ++ d ++ 
 regroup x a d e p = simp append_assoc
 
 packed_form : {highest : ℕ} {below : Forest} (t : Token) → t.kind ≡ packed → t.mark < 256 → Shaped highest t.order t.count below → Around t below
-unfolding is_single is_list among token payload_of head tail payload_at row_of house opens if◌then◌else◌
+unfolding is_single is_list among token payload_of head tail payload_at row_of house opens when◌then◌else◌
 packed_form {below = below} t e b s = record {
   not_alone = rw e;
   no_table = rw e;
@@ -137,7 +137,7 @@ packed_form {below = below} t e b s = record {
 }
 
 table_form_lem : {highest : ℕ} {dims : Forest} (t s : Token) (fields : Forest) → t.kind ≡ table → t.mark < 256 → Shaped highest t.order t.count dims → Tabular t s fields dims
-unfolding is_single is_list among token table_form payload_of head middle tail payload_at row_of house written whole if◌then◌else◌
+unfolding is_single is_list among token table_form payload_of head middle tail payload_at row_of house written whole when◌then◌else◌
 table_form_lem {dims = dims} t s fields e b d = record {
   not_alone = rw e;
   is_table = rw e;

@@ -9,7 +9,7 @@ use lib.ListN.{length, set, drop}
 use lib.Seq.{sets, set_comm, length-sets, sets-eq, take-append_seam}
 use lib.Dec.{ltb}
 use borrow.Author.Tests.{lt-ltb}
-use Rattle.format.specs.Conditions.{if◌then◌else◌}
+use Rattle.format.specs.Conditions.{when◌then◌else◌}
 use Rattle.format.specs.Rows.{Row, row_words, layout, rows_in, words_of, zeros, filled}
 use Rattle.format.proofs.RowWords.{length-layout, length_words}
 use Rattle.rows.specs.Clearing.{cleared_from}
@@ -37,10 +37,10 @@ sets_append (x ∷ a) b l i =
 -- ---- one row, stored or not
 
 put : Bool → List ℕ → ℕ → Row → List ℕ
-put b ws i r = if b then sets ws (i * row_words) (layout r) else ws
+put b ws i r = when b then sets ws (i * row_words) (layout r) else ws
 
 length-put : (b : Bool) (ws : List ℕ) (i : ℕ) (r : Row) → length (put b ws i r) ≡ length ws
-unfolding put if◌then◌else◌
+unfolding put when◌then◌else◌
 length-put true ws i r = length-sets ws (i * row_words) (layout r)
 length-put false ws i r = refl
 
@@ -49,7 +49,7 @@ unfolding store put
 length-store ws i r = length-put (ltb i (rows_in ws)) ws i r
 
 put_comm : (b c : Bool) (ws : List ℕ) (i j : ℕ) (r s : Row) → i < j → put b (put c ws j s) i r ≡ put c (put b ws i r) j s
-unfolding put if◌then◌else◌ layout
+unfolding put when◌then◌else◌ layout
 put_comm true true ws i j r s h = sets_comm (layout r) (layout s) ws (i * row_words) (j * row_words) (omega arith)
 put_comm true false ws i j r s h = refl
 put_comm false true ws i j r s h = refl
@@ -89,7 +89,7 @@ lay_front ws i r b = store-lay ws i (suc i) r b (omega arith)
 -- ---- a table that has room for all
 
 store_there : (ws : List ℕ) (i : ℕ) (r : Row) → (i + 1) * row_words ≤ length ws → store ws i r ≡ sets ws (i * row_words) (layout r)
-unfolding store rows_in if◌then◌else◌
+unfolding store rows_in when◌then◌else◌
 store_there ws i r h = rw (lt-ltb i (length ws / row_words) (omega arith))
 
 lay_there : (ws : List ℕ) (i : ℕ) (rs : List Row) → (i + length rs) * row_words ≤ length ws → lay ws i rs ≡ sets ws (i * row_words) (words_of rs)

@@ -1,7 +1,7 @@
 -- What storing a row does to lent words, and the row that the code's struct stands for.
 use Rattle.std.specs.Prelude.{ℕ, ◌*◌, List, ltb}
 use Rattle.std.proofs.lemmas.List.Edits.{sets}
-use Rattle.format.specs.Conditions.{if◌then◌else◌}
+use Rattle.format.specs.Conditions.{when◌then◌else◌}
 use Rattle.format.specs.Rows as Rows
 use Rattle.format.specs.Rows.{row_words, layout, rows_in}
 use Rattle.rows.specs.declared.Row.{Row}
@@ -31,4 +31,4 @@ no_row = record { kind = 0; mark = 0; first = 0; payload = 0; extent = 0; count 
 
 -- a row is stored whole, or not at all where the words have no such row
 unfoldable pub store : List ℕ → ℕ → Rows.Row → List ℕ
-store ws row r = if ltb row (rows_in ws) then sets ws (row * row_words) (layout r) else ws
+store ws row r = when ltb row (rows_in ws) then sets ws (row * row_words) (layout r) else ws

@@ -8,7 +8,7 @@ use native.Mathlib.Omega.{arith}
 use lib.ListN.{length, get_or}
 use borrow.Author.Tests.{lt-ltb, ne_eqb}
 use Rattle.format.specs.Grammars.{Grammar}
-use Rattle.format.specs.Conditions.{if◌then◌else◌, among, all}
+use Rattle.format.specs.Conditions.{when◌then◌else◌, among, all}
 use Rattle.format.specs.Outcome.{done, ◌>>=◌, ◌>>◌, guard}
 use Rattle.format.specs.Marks.{Opening, bracket, brace, closes, integers, is_integer, types, is_scalar, width, 'F', 'N', 'S', 'T', 'Z', ']', right_brace}
 use Rattle.format.specs.Tokens as Tokens
@@ -63,19 +63,19 @@ begins_here m at opening there h =
 
 module _ (mark at : ℕ) where
   pub value_start_text : mark ≡ 'S' → value_start mark at ≡ at + 3
-  unfolding value_start if◌then◌else◌
+  unfolding value_start when◌then◌else◌
   value_start_text e = rw e
 
   pub value_start_scalar : (mark ≡ 'S' → ⊥) → value_start mark at ≡ at + 1
-  unfolding value_start if◌then◌else◌
+  unfolding value_start when◌then◌else◌
   value_start_scalar e = rw (ne_eqb _ _ e)
 
   pub value_token_text : (end : ℕ) → mark ≡ 'S' → value_token mark at end ≡ uncounted Tokens.text 'S' at (at + 3) (end - (at + 3))
-  unfolding value_token if◌then◌else◌
+  unfolding value_token when◌then◌else◌
   value_token_text end e = rw (value_start_text e, e)
 
   pub value_token_scalar : (end : ℕ) → (mark ≡ 'S' → ⊥) → value_token mark at end ≡ uncounted Tokens.scalar mark at (at + 1) (end - (at + 1))
-  unfolding value_token if◌then◌else◌
+  unfolding value_token when◌then◌else◌
   value_token_scalar end e = rw (value_start_scalar e, ne_eqb _ _ e)
 
 -- ---- a value that is one token
@@ -90,7 +90,7 @@ module _ (m : List ℕ) (at : ℕ) where
 
   module _ (end : ℕ) where
     pub scalar_stands : ScalarEnds m at end → Stands (uncounted Tokens.scalar (get_or m at 0) at (at + 1) (end - (at + 1))) end
-    unfolding members is_kind value_by byte guard ◌>>◌ ◌>>=◌ if◌then◌else◌ after
+    unfolding members is_kind value_by byte guard ◌>>◌ ◌>>=◌ when◌then◌else◌ after
     scalar_stands s =
         let there : at < length m = omega arith in
         let n : end - (at + 1) ≡ width (get_or m at 0) = omega arith in
@@ -102,7 +102,7 @@ module _ (m : List ℕ) (at : ℕ) where
         }
 
     pub text_stands : TextEnds m at end → Stands (uncounted Tokens.text 'S' at (at + 3) (end - (at + 3))) end
-    unfolding members is_kind is_scalar types integers begins among value_by byte guard ◌>>◌ ◌>>=◌ if◌then◌else◌ after
+    unfolding members is_kind is_scalar types integers begins among value_by byte guard ◌>>◌ ◌>>=◌ when◌then◌else◌ after
     text_stands s =
         let there : at < length m = omega arith in
         let n : end - (at + 3) ≡ get_or m (at + 2) 0 = omega arith in
@@ -160,7 +160,7 @@ module _ (m : List ℕ) (lent : ℕ) (ancestry : Ancestry) where
   pub pair_passed : (at row value next : ℕ) (t : Token) (now mid after : List ℕ) → KeyEnds m at value → Stands m value t next → row + 1 < lent
       → mid ≡ store now row (row_of (uncounted Tokens.key 'S' at (at + 2) (value - (at + 2))) (row + 1) ancestry) → after ≡ store mid (row + 1) (row_of t (row + 1 + 1) ancestry)
       → PassedIn m lent brace at row ancestry now (record { at = next; row = row + 1 + 1; count = 1 }) after
-  unfolding items spaced members is_kind if◌then◌else◌
+  unfolding items spaced members is_kind when◌then◌else◌
   pair_passed at row value next t now mid after k s h d e grammar nested =
       passed_one m (closes brace) (key m lent ⨾ spaced m (value_by m lent grammar nested)) at row next (row + 1 + 1) ancestry now after (key_starts m at value k) (omega arith)
       (seq_meets (Next next (row + 1 + 1)) (key m lent) (spaced m (value_by m lent grammar nested)) at row 0 value (row + 1) 1 ancestry now mid after

@@ -5,7 +5,7 @@ use mathlib.Core.List.{List}
 use native.Mathlib.Omega.{arith}
 use lib.ListN.{length}
 use borrow.Author.Tests.{lt-ltb, ne_eqb}
-use Rattle.format.specs.Conditions.{if◌then◌else◌}
+use Rattle.format.specs.Conditions.{when◌then◌else◌}
 use Rattle.format.specs.Outcome.{◌>>=◌, ◌>>◌, guard}
 use Rattle.format.specs.Tokens.{none, size, ◌⊕◌, members}
 use Rattle.format.specs.Rows.{Ancestry, rows}
@@ -39,7 +39,7 @@ module _ (m : List ℕ) (closing : ℕ) (item : Reader) where
     one_some n = let e : 1 + n ≡ suc n = omega arith in rw (e, l.took) (seq_read (spaced m item) (repeat n (spaced m item)) at row next l.forest (rw b.here l.read))
 
     one_goes : (fuel : ℕ) → length m ≤ at + fuel → Goes m closing item at row l.forest next row' fuel
-    unfolding until byte guard ◌>>◌ ◌>>=◌ if◌then◌else◌
+    unfolding until byte guard ◌>>◌ ◌>>=◌ when◌then◌else◌
     one_goes zero h = let t = b.there in absurd (omega arith)
     one_goes (suc fuel) h =
         record {

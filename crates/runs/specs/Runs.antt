@@ -1,7 +1,7 @@
 -- Members that are read one after another, with no `N` between them.
 use Rattle.std.specs.Prelude.{ℕ, ◌+◌, ◌-◌, ◌≤◌, ◌<◌, ◌≡◌, List, length, get_or, eqb}
 use Rattle.format.specs.Grammars.{Grammar}
-use Rattle.format.specs.Conditions.{if◌then◌else◌}
+use Rattle.format.specs.Conditions.{when◌then◌else◌}
 use Rattle.format.specs.Marks.{Opening, closes, 'S'}
 use Rattle.format.specs.Tokens.{Token, text, scalar, uncounted, Forest, size, members}
 use Rattle.format.specs.Rows.{Ancestry, rows}
@@ -15,11 +15,11 @@ use Rattle.runs.specs.declared.members.Run.{Run}
 
 -- the first payload byte of a text whose length stands under `U`, or of a scalar under this mark
 unfoldable pub value_start : ℕ → ℕ → ℕ
-value_start mark at = if eqb mark 'S' then at + 3 else at + 1
+value_start mark at = when eqb mark 'S' then at + 3 else at + 1
 
 -- its token
 unfoldable pub value_token : ℕ → ℕ → ℕ → Token
-value_token mark at end = uncounted (if eqb mark 'S' then text else scalar) mark at (value_start mark at) (end - value_start mark at)
+value_token mark at end = uncounted (when eqb mark 'S' then text else scalar) mark at (value_start mark at) (end - value_start mark at)
 
 -- a member may begin here: no `N` stands here, and not the closing mark
 pub record Begins (m : List ℕ) (closing at : ℕ) : Type 0 where

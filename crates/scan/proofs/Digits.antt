@@ -9,7 +9,7 @@ use native.Mathlib.Nat.{pow-le-pow_right, lt_of_lt_of_le, add-zero, sub-zero, su
 use lib.ListN.{length, get_or}
 use lib.Dec.{leb}
 use borrow.Author.Tests.{leb-true, le-leb, lt-leb}
-use Rattle.format.specs.Conditions.{if◌then◌else◌}
+use Rattle.format.specs.Conditions.{when◌then◌else◌}
 use Rattle.format.specs.Marks.{is_signed, width}
 use Rattle.format.specs.Bytes as Bytes
 use Rattle.format.specs.Bytes.{little, bytes}
@@ -44,15 +44,15 @@ module _ (m : List ℕ) (at : ℕ) where
   -- ---- the cases of `little_at`
 
   pub too_wide : (w : ℕ) → 8 < w → 0 ≡ little_at m at w
-  unfolding little_at if◌then◌else◌
+  unfolding little_at when◌then◌else◌
   too_wide w h = rw (lt-leb w 8 h)
 
   pub not_there : (w : ℕ) → length m < at + w → 0 ≡ little_at m at w
-  unfolding little_at Bytes.within if◌then◌else◌
+  unfolding little_at Bytes.within when◌then◌else◌
   not_there w h = rw (lt-leb (at + w) (length m) h, and-false)
 
   pub all_there : (w : ℕ) → w ≤ 8 → at + w ≤ length m → little (bytes m at w) ≡ little_at m at w
-  unfolding little_at Bytes.within if◌then◌else◌
+  unfolding little_at Bytes.within when◌then◌else◌
   all_there w h k = rw (le-leb w 8 h, le-leb (at + w) (length m) k)
 
 -- ---- the sign

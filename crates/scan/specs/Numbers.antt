@@ -1,6 +1,6 @@
 -- What the integer leaves answer.
 use Rattle.std.specs.Prelude.{ℕ, ◌≤◌, ◌&&◌, List, length, leb}
-use Rattle.format.specs.Conditions.{if◌then◌else◌}
+use Rattle.format.specs.Conditions.{when◌then◌else◌}
 use Rattle.format.specs.Outcome as Outcome
 use Rattle.format.specs.Outcome.{fault, done}
 use Rattle.format.specs.Bytes.{little, bytes, within}
@@ -9,7 +9,7 @@ use Rattle.scan.specs.declared.integers.Parsed.TheVariants.{Number, Refused}
 
 -- the number of so many bytes, or 0 where they aren't all there or don't fit 64 bits
 unfoldable pub little_at : List ℕ → ℕ → ℕ → ℕ
-little_at m at w = if leb w 8 && within (length m) at w then little (bytes m at w) else 0
+little_at m at w = when leb w 8 && within (length m) at w then little (bytes m at w) else 0
 
 -- the number and the place after it; or 01's number and place
 abbrev pub parsed : Parsed → Outcome.Parsed ℕ

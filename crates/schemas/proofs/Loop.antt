@@ -7,7 +7,7 @@ use native.Mathlib.Omega.{arith}
 use lib.ListN.{length}
 use lib.Dec.{ltb}
 use borrow.Author.Tests.{ltb-true, ltb-false, lt-ltb, eq-eqb, ne_eqb}
-use Rattle.format.specs.Conditions.{if◌then◌else◌}
+use Rattle.format.specs.Conditions.{when◌then◌else◌}
 use Rattle.format.specs.Outcome.{Parsed, fault, done, ◌>>=◌, ◌>>◌, guard}
 use Rattle.format.specs.Limits.{limit}
 use Rattle.format.specs.Refusals.{ends_too_early}
@@ -39,14 +39,14 @@ module _ (m : List ℕ) (closing : ℕ) (item : Reader) where
   rest fuel = until m fuel (λ here. here) closing item
 
   rest_closed : (fuel at row : ℕ) → length m ≤ at + fuel → stands m at closing ≡ true → rest fuel at row ≡ done (none, at)
-  unfolding until byte guard ◌>>◌ ◌>>=◌ if◌then◌else◌
+  unfolding until byte guard ◌>>◌ ◌>>=◌ when◌then◌else◌
   rest_closed zero at row h e = let s = stands_there m at closing e in absurd (omega arith)
   rest_closed (suc fuel) at row h e = let s = stands_there m at closing e in rw (lt-ltb _ _ s.0, eq-eqb _ _ s.1)
 
   -- another item, given that none begins at the message's end
   rest_on : (fuel at row : ℕ) → length m ≤ at + fuel → stands m at closing ≡ false → (length m ≤ at → item at row ≡ fault ends_too_early (length m))
       → (less : ℕ) × (length m ≤ at + 1 + less) × (rest fuel at row ≡ (item ⨾ rest less) at row)
-  unfolding until byte guard ◌>>◌ ◌>>=◌ if◌then◌else◌
+  unfolding until byte guard ◌>>◌ ◌>>=◌ when◌then◌else◌
   rest_on zero at row h e early = (0, omega arith, sym (seq_fault item (rest 0) at row _ _ (early (omega arith))))
   rest_on (suc fuel) at row h e early = (fuel, omega arith, go (ltb at (length m)) refl)
     where

@@ -5,7 +5,7 @@ use mathlib.Core.List.{List}
 use native.Mathlib.Omega.{arith}
 use lib.ListN.{length, get_or}
 use borrow.Author.Tests.{lt-ltb, le-ltb, eq-eqb, ne_eqb}
-use Rattle.format.specs.Conditions.{if◌then◌else◌}
+use Rattle.format.specs.Conditions.{when◌then◌else◌}
 use Rattle.format.specs.Outcome.{Outcome, fault, done, ◌>>=◌, ◌>>◌, guard}
 use Rattle.format.specs.Tokens.{Forest, none, size, ◌⊕◌}
 use Rattle.format.specs.Bytes.{byte}
@@ -50,12 +50,12 @@ module _ (m : List ℕ) (gap : ℕ → ℕ) (closing : ℕ) (item : Reader) wher
 
   module _ (at row : ℕ) (f : Forest) (end : ℕ) (there : gap at < length m) where
     pub until_stops : (fuel : ℕ) → until m fuel gap closing item at row ≡ done (f, end) → get_or m (gap at) 0 ≡ closing → (f ≡ none) × (end ≡ gap at)
-    unfolding until byte guard ◌>>◌ ◌>>=◌ if◌then◌else◌
+    unfolding until byte guard ◌>>◌ ◌>>=◌ when◌then◌else◌
     until_stops zero e c = no_fault _ _ _ (f, end) refl e
     until_stops (suc fuel) e c = let q = parts (rw (lt-ltb _ _ there, eq-eqb _ _ c) at e) in (sym q.0, sym q.1)
 
     pub until_goes : (fuel : ℕ) → until m fuel gap closing item at row ≡ done (f, end) → (get_or m (gap at) 0 ≡ closing → ⊥)
         → (left : ℕ) × ((item ⨾ until m left gap closing item) (gap at) row ≡ done (f, end))
-    unfolding until byte guard ◌>>◌ ◌>>=◌ if◌then◌else◌
+    unfolding until byte guard ◌>>◌ ◌>>=◌ when◌then◌else◌
     until_goes zero e c = no_fault _ _ _ (f, end) refl e
     until_goes (suc fuel) e c = (fuel, rw (lt-ltb _ _ there, ne_eqb _ _ c) at e)

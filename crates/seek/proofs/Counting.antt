@@ -5,7 +5,7 @@ use mathlib.Core.Bool.{Bool, true, false}
 use mathlib.Core.List.{List, [], ◌∷◌, ◌++◌, map, map-append, append_assoc}
 use native.Mathlib.Omega.{arith}
 use lib.ListN.{length}
-use Rattle.format.specs.Conditions.{if◌then◌else◌}
+use Rattle.format.specs.Conditions.{when◌then◌else◌}
 use Rattle.format.specs.Outcome.{done}
 use Rattle.format.specs.Marks.{Opening, bracket, brace}
 use Rattle.format.specs.Tokens.{Kind, Token, key as kind_of_key, table as kind_of_table, is_kind, Forest, none, node, size, ◌⊕◌}
@@ -31,7 +31,7 @@ group_no_table brace = refl
 
 -- a schema's tokens when they are given their offsets
 placed_tableless : {k due : Bool} {f : Forest} (at : ℕ) → Members k due f → Tableless (placed at f)
-unfolding placed at_offset if◌then◌else◌ is_kind
+unfolding placed at_offset when◌then◌else◌ is_kind
 placed_tableless at no_more = empty
 placed_tableless at (key {t = t} i r) =
     let e : is_kind kind_of_key t.kind ≡ true = rw i.kind_is key_kind in
@@ -113,13 +113,13 @@ rest_of : (n : ℕ) (a b : Ancestry) (below after : Forest)
 rest_of n a b below after = of_kind_append kind_of_table (suc n) (rows (suc n) a below) _ ∙ rw (length-rows (suc n) a below)
 
 none_of_kind : {f : Forest} → Tableless f → (n : ℕ) (a : Ancestry) → of_kind kind_of_table n (rows n a f) ≡ []
-unfolding rows row_of of_kind is_kind if◌then◌else◌
+unfolding rows row_of of_kind is_kind when◌then◌else◌
 none_of_kind empty n a = refl
 none_of_kind (token {below = below} {after = after} e u r) n a =
     rw (e, rest_of n (held_by n a) a below after, none_of_kind u (suc n) (held_by n a), none_of_kind r (suc n + size below) a)
 
 counted_rows : {f : Forest} → Flat f → (n : ℕ) (a : Ancestry) → map (λ t. t.row) (tables n f) ≡ of_kind kind_of_table n (rows n a f)
-unfolding tables rows row_of of_kind is_kind if◌then◌else◌
+unfolding tables rows row_of of_kind is_kind when◌then◌else◌
 counted_rows nothing n a = refl
 counted_rows (over {below = below} {after = after} e u r) n a =
     rw (e, rest_of n (held_by n a) a below after, ← counted_rows u (suc n) (held_by n a), ← counted_rows r (suc n + size below) a) (map-append (λ t. t.row) (tables (suc n) below) _)

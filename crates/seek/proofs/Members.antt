@@ -6,7 +6,7 @@ use mathlib.Core.List.{List}
 use native.Mathlib.Omega.{arith}
 use lib.ListN.{length}
 use Rattle.format.specs.Grammars.{Grammar}
-use Rattle.format.specs.Conditions.{if◌then◌else◌}
+use Rattle.format.specs.Conditions.{when◌then◌else◌}
 use Rattle.format.specs.Outcome.{Outcome, Parsed, fault, done, ◌>>=◌}
 use Rattle.format.specs.Marks.{Opening, bracket, brace}
 use Rattle.format.specs.Tokens.{Forest, none, size, ◌⊕◌}
@@ -60,13 +60,13 @@ first_same : {A B : Type 0} (o o' : Outcome A) (k : A → Outcome B) (b : B) →
 unfolding ◌>>=◌
 first_same o o' k b h e = let q = bind_back o k b e in rw (h q.0 q.1) q.2
 
-if_same : {A : Type 0} (c : Bool) (o x y : Outcome A) (a : A) → (x ≡ done a → y ≡ done a) → (if c then o else x) ≡ done a → (if c then o else y) ≡ done a
-unfolding if◌then◌else◌
+if_same : {A : Type 0} (c : Bool) (o x y : Outcome A) (a : A) → (x ≡ done a → y ≡ done a) → (when c then o else x) ≡ done a → (when c then o else y) ≡ done a
+unfolding when◌then◌else◌
 if_same true o x y a h e = e
 if_same false o x y a h e = h e
 
-never_same : {A : Type 0} (c : Bool) (o x y : Outcome A) (a : A) → (x ≡ done a → y ≡ done a) → (if c then fault 0 0 else x) ≡ done a → (if c then o else y) ≡ done a
-unfolding if◌then◌else◌
+never_same : {A : Type 0} (c : Bool) (o x y : Outcome A) (a : A) → (x ≡ done a → y ≡ done a) → (when c then fault 0 0 else x) ≡ done a → (when c then o else y) ≡ done a
+unfolding when◌then◌else◌
 never_same true o x y a h e = no_fault (fault 0 0) 0 0 a refl e
 never_same false o x y a h e = h e
 

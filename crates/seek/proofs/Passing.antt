@@ -4,7 +4,7 @@ use mathlib.Core.Path.{◌≡◌, refl, sym, ◌∙◌}
 use mathlib.Core.List.{List}
 use native.Mathlib.Omega.{arith}
 use lib.ListN.{length}
-use Rattle.format.specs.Conditions.{if◌then◌else◌}
+use Rattle.format.specs.Conditions.{when◌then◌else◌}
 use Rattle.format.specs.Outcome.{Parsed, done}
 use Rattle.format.specs.Marks.{Opening}
 use Rattle.format.specs.Tokens.{Forest}
@@ -35,7 +35,7 @@ pass_whole (Next next' row') m row k left left' o ancestry before after c l f ne
 
 module _ (m : List ℕ) (opening : Opening) (at row : ℕ) where
   one_table_lem : (f : Forest) → OneTable at f → length (tables row f) ≡ 1
-  unfolding tables if◌then◌else◌
+  unfolding tables when◌then◌else◌
   one_table_lem f (one_table e h) = rw e
 
   pub table_counts : (left : ℕ) → 0 < left → (f : Forest) (next : ℕ) → table m (length m) opening at row ≡ done (f, next) → left ≡ length (tables row f) + (left - 1)
@@ -43,7 +43,7 @@ module _ (m : List ℕ) (opening : Opening) (at row : ℕ) where
 
   -- the table sought
   table_here : (f : Forest) (next : ℕ) → OneTable at f → table m (length m) opening at row ≡ done (f, next) → Found m (tables row f) 0 opening at row
-  unfolding tables if◌then◌else◌ pick
+  unfolding tables when◌then◌else◌ pick
   table_here f next (one_table {t = t} {under = under} e h) q =
       record { table = record { row = row; token = t; under = under }; picked = rw e; begins = h; stands = refl; end = next; read = q }
 

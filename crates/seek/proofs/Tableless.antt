@@ -3,7 +3,7 @@ use Prim.Native.Nat.{ℕ, zero, suc, ◌+◌}
 use mathlib.Core.Path.{◌≡◌, refl}
 use mathlib.Core.Bool.{true, false}
 use mathlib.Core.List.{List, []}
-use Rattle.format.specs.Conditions.{if◌then◌else◌}
+use Rattle.format.specs.Conditions.{when◌then◌else◌}
 use Rattle.format.specs.Outcome.{Parsed}
 use Rattle.format.specs.Marks.{Opening, bracket, brace}
 use Rattle.format.specs.Tokens.{Kind, Token, table as kind_of_table, is_kind, Forest, none, node, alone, size, ◌⊕◌}
@@ -24,7 +24,7 @@ pub data Tableless : Forest → Type 0 where
   token : {t : Token} {below after : Forest} → is_kind kind_of_table t.kind ≡ false → Tableless below → Tableless after → Tableless (node t below after)
 
 pub no_tables : {f : Forest} → Tableless f → (n : ℕ) → tables n f ≡ []
-unfolding tables if◌then◌else◌
+unfolding tables when◌then◌else◌
 no_tables empty n = refl
 no_tables (token {below = below} e u r) n = rw (e, no_tables u (suc n), no_tables r (suc n + size below))
 

@@ -7,7 +7,7 @@ use native.Mathlib.Omega.{arith}
 use types.Run.{OneOf, miss}
 use denote.Enum.Declared.{tag_of}
 use lib.ListN.{length}
-use Rattle.format.specs.Conditions.{if◌then◌else◌}
+use Rattle.format.specs.Conditions.{when◌then◌else◌}
 use Rattle.format.specs.Outcome.{Parsed, done}
 use Rattle.format.specs.Marks.{Opening}
 use Rattle.format.specs.Tokens.{Token, table as kind_of_table, is_kind, Forest, none, node, size, ◌⊕◌}
@@ -68,7 +68,7 @@ module _ (m : List ℕ) where
 
   -- over those below a token that is no table
   under_is : (row : ℕ) (t : Token) (below : Forest) → is_kind kind_of_table t.kind ≡ false → tables row (node t below none) ≡ tables (row + 1) below
-  unfolding tables if◌then◌else◌
+  unfolding tables when◌then◌else◌
   under_is row t below e = let q : row + 1 ≡ suc row = omega arith in rw (e, q) (append-nil (tables (suc row) below))
 
   pub comes_under : (s : Sought) (row left : ℕ) (t : Token) (below : Forest) (next : ℕ) → is_kind kind_of_table t.kind ≡ false

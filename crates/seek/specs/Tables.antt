@@ -1,6 +1,6 @@
 -- What a table that is found by its number is.
 use Rattle.std.specs.Prelude.{ℕ, suc, ◌≡◌, List, [], ◌∷◌, ◌++◌, length, eqb}
-use Rattle.format.specs.Conditions.{if◌then◌else◌}
+use Rattle.format.specs.Conditions.{when◌then◌else◌}
 use Rattle.format.specs.Outcome.{fault, done}
 use Rattle.format.specs.Refusals.{not_there}
 use Rattle.format.specs.Marks.{Opening, opening_of}
@@ -35,4 +35,4 @@ TableMeets Missing m f number = pick (tables 0 f) number ≡ fault not_there 0
 -- the rows of this kind, by number, in a list that starts at row n
 unfoldable pub of_kind : Kind → ℕ → List Row → List ℕ
 of_kind kind n [] = []
-of_kind kind n (r ∷ rs) = (if eqb (kind_number kind) r.kind then n ∷ [] else []) ++ of_kind kind (suc n) rs
+of_kind kind n (r ∷ rs) = (when eqb (kind_number kind) r.kind then n ∷ [] else []) ++ of_kind kind (suc n) rs

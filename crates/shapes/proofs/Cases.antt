@@ -6,7 +6,7 @@ use mathlib.Core.List.{List}
 use native.Mathlib.Omega.{arith}
 use lib.ListN.{length, get_or}
 use borrow.Author.Tests.{le-leb, lt-leb, lt-ltb, le-ltb, eq-eqb, ne_eqb}
-use Rattle.format.specs.Conditions.{if◌then◌else◌, between}
+use Rattle.format.specs.Conditions.{when◌then◌else◌, between}
 use Rattle.format.specs.Outcome.{fault, done, ◌>>=◌, ◌>>◌, guard}
 use Rattle.format.specs.Limits.{dimension_limit}
 use Rattle.format.specs.Refusals.{ends_too_early, not_allowed, wrong_integer}
@@ -43,13 +43,13 @@ module _ (m : List ℕ) (lent : ℕ) where
     listed_early (suc left) p h = rw (le-ltb _ _ h)
 
     pub listed_closed : (left : ℕ) → 0 < left → at < length m → get_or m at 0 ≡ ']' → listed m lent left place at row ≡ done (none, at + 1)
-    unfolding listed byte guard ◌>>◌ ◌>>=◌ if◌then◌else◌
+    unfolding listed byte guard ◌>>◌ ◌>>=◌ when◌then◌else◌
     listed_closed zero p h e = absurd (omega arith)
     listed_closed (suc left) p h e = rw (lt-ltb _ _ h, eq-eqb _ _ e)
 
     pub listed_more : (left : ℕ) → 0 < left → at < length m → (get_or m at 0 ≡ ']' → ⊥)
         → listed m lent left place at row ≡ (marked m lent ⨾ listed m lent (left - 1) place) at row
-    unfolding listed byte guard ◌>>◌ ◌>>=◌ if◌then◌else◌
+    unfolding listed byte guard ◌>>◌ ◌>>=◌ when◌then◌else◌
     listed_more zero p h e = absurd (omega arith)
     listed_more (suc left) p h e = let q : suc left - 1 ≡ left = omega arith in rw (lt-ltb _ _ h, ne_eqb _ _ e, q)
 
@@ -100,21 +100,21 @@ module _ (m : List ℕ) (lent : ℕ) where
 
     module _ (there : at < length m) where
       pub vector_empty : get_or m at 0 ≡ ']' → vector m lent place at row ≡ fault wrong_integer place
-      unfolding vector byte guard ◌>>◌ ◌>>=◌ if◌then◌else◌
+      unfolding vector byte guard ◌>>◌ ◌>>=◌ when◌then◌else◌
       vector_empty e = rw (lt-ltb _ _ there, eq-eqb _ _ e)
 
       module _ (full : get_or m at 0 ≡ ']' → ⊥) where
         pub vector-counted : get_or m at 0 ≡ '#' → vector m lent place at row ≡ counted m lent place (marked m lent) (at + 1) row
-        unfolding vector byte guard ◌>>◌ ◌>>=◌ if◌then◌else◌
+        unfolding vector byte guard ◌>>◌ ◌>>=◌ when◌then◌else◌
         vector-counted e = rw (lt-ltb _ _ there, ne_eqb _ _ full, eq-eqb _ _ e)
 
         pub vector_typed : (get_or m at 0 ≡ '#' → ⊥) → get_or m at 0 ≡ '$' → vector m lent place at row ≡ counted_bare m lent place (at + 1) row
-        unfolding vector byte guard ◌>>◌ ◌>>=◌ if◌then◌else◌
+        unfolding vector byte guard ◌>>◌ ◌>>=◌ when◌then◌else◌
         vector_typed d e = rw (lt-ltb _ _ there, ne_eqb _ _ full, ne_eqb _ _ d, eq-eqb _ _ e)
 
         pub vector-listed : (get_or m at 0 ≡ '#' → ⊥) → (get_or m at 0 ≡ '$' → ⊥)
             → vector m lent place at row ≡ (marked m lent ⨾ listed m lent dimension_limit place) at row
-        unfolding vector byte guard ◌>>◌ ◌>>=◌ if◌then◌else◌
+        unfolding vector byte guard ◌>>◌ ◌>>=◌ when◌then◌else◌
         vector-listed d e = rw (lt-ltb _ _ there, ne_eqb _ _ full, ne_eqb _ _ d, ne_eqb _ _ e)
 
   -- ---- shapes
@@ -160,22 +160,22 @@ module _ (m : List ℕ) (lent : ℕ) where
         shape_early h = rw (le-ltb _ _ h)
 
         pub shape-plain : at < length m → (get_or m at 0 ≡ '[' → ⊥) → shape m lent wraps at row ≡ plain m lent at
-        unfolding shape byte guard ◌>>◌ ◌>>=◌ if◌then◌else◌
+        unfolding shape byte guard ◌>>◌ ◌>>=◌ when◌then◌else◌
         shape-plain h e = rw (lt-ltb _ _ h, ne_eqb _ _ e)
 
         module _ (there : at < length m) (opens : get_or m at 0 ≡ '[') where
           pub shape_short : length m ≤ at + 1 → shape m lent wraps at row ≡ fault ends_too_early (length m)
-          unfolding shape byte guard ◌>>◌ ◌>>=◌ if◌then◌else◌
+          unfolding shape byte guard ◌>>◌ ◌>>=◌ when◌then◌else◌
           shape_short h = rw (lt-ltb _ _ there, eq-eqb _ _ opens, le-ltb _ _ h)
 
           pub shape-slowest : at + 1 < length m → (get_or m (at + 1) 0 ≡ '[' → ⊥) → shape m lent wraps at row ≡ slowest m lent at row
-          unfolding shape byte guard ◌>>◌ ◌>>=◌ if◌then◌else◌
+          unfolding shape byte guard ◌>>◌ ◌>>=◌ when◌then◌else◌
           shape-slowest h e = rw (lt-ltb _ _ there, eq-eqb _ _ opens, lt-ltb _ _ h, ne_eqb _ _ e)
 
           pub shape-fastest : at + 1 < length m → get_or m (at + 1) 0 ≡ '[' → wraps ≡ true → shape m lent wraps at row ≡ fastest m lent at row
-          unfolding shape byte guard ◌>>◌ ◌>>=◌ if◌then◌else◌
+          unfolding shape byte guard ◌>>◌ ◌>>=◌ when◌then◌else◌
           shape-fastest h e w = rw (lt-ltb _ _ there, eq-eqb _ _ opens, lt-ltb _ _ h, eq-eqb _ _ e, w)
 
           pub shape_unwrapped : at + 1 < length m → get_or m (at + 1) 0 ≡ '[' → wraps ≡ false → shape m lent wraps at row ≡ slowest m lent at row
-          unfolding shape byte guard ◌>>◌ ◌>>=◌ if◌then◌else◌
+          unfolding shape byte guard ◌>>◌ ◌>>=◌ when◌then◌else◌
           shape_unwrapped h e w = rw (lt-ltb _ _ there, eq-eqb _ _ opens, lt-ltb _ _ h, eq-eqb _ _ e, w)

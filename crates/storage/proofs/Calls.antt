@@ -8,7 +8,7 @@ use native.Mathlib.Omega.{arith}
 use native.Mathlib.Numerals.{add-one}
 use lib.ListN.{length}
 use lib.Dec.{eqb}
-use Rattle.format.specs.Conditions.{if◌then◌else◌, among}
+use Rattle.format.specs.Conditions.{when◌then◌else◌, among}
 use Rattle.format.specs.Outcome.{Outcome, fault, done, ◌>>=◌, ◌>>◌, guard}
 use Rattle.format.specs.Refusals.{not_there, rows_dont_fit}
 use Rattle.format.specs.Marks.{Opening, bracket, brace, opens, is_type, width, '[', left_brace}
@@ -150,7 +150,7 @@ module _ (f : Forest) (ws : List ℕ) (filled : Filled f ws) (message_bytes : �
     -- what is answered for a leaf, in its field, by the record's number
     answer : Token → Token → ℕ → Outcome Region
     answer field l r =
-        if eqb t.mark '[' then inside ws message_bytes l.mark (t.payload + r * s.extent + l.payload) 0 l.extent else
+        when eqb t.mark '[' then inside ws message_bytes l.mark (t.payload + r * s.extent + l.payload) 0 l.extent else
         inside ws message_bytes l.mark (t.payload + t.count * field.payload + r * field.extent + l.payload) field.payload l.extent
 
     -- the call at a leaf that the walk found
@@ -169,7 +169,7 @@ module _ (f : Forest) (ws : List ℕ) (filled : Filled f ws) (message_bytes : �
     answer-done : (o : Opening) → t.mark ≡ opens o → (field l : Token) (r : ℕ) → field.payload ≤ l.payload
         → t.payload + formula_of o t.count s.extent field l r + l.extent ≤ message_bytes
         → answer field l r ≡ done (record { mark = l.mark; first = t.payload + formula_of o t.count s.extent field l r; wide = l.extent })
-    unfolding answer if◌then◌else◌ opens
+    unfolding answer when◌then◌else◌ opens
     answer-done bracket e field l r h i = rw e (inside-done ws message_bytes l.mark _ 0 l.extent _ (omega arith) i)
     answer-done brace e field l r h i = rw e (inside-done ws message_bytes l.mark _ field.payload l.extent _ (omega arith) i)
 

@@ -5,7 +5,7 @@ use mathlib.Core.List.Memᴰ
 use mathlib.Core.List.{[], ◌∷◌, ◌++◌, Memᴰ}
 use mathlib.Core.Logic.{inl, inr}
 use native.Mathlib.Omega.{arith}
-use Rattle.format.specs.Conditions.{if◌then◌else◌}
+use Rattle.format.specs.Conditions.{when◌then◌else◌}
 use Rattle.format.specs.Marks.{Opening, bracket, brace, width}
 use Rattle.format.specs.Tokens.{Token, key as kind_of_key, leaf as kind_of_leaf, is_kind, Forest, none, node, size}
 use Rattle.format.specs.Records.{member_width}
@@ -22,7 +22,7 @@ use Rattle.storage.proofs.Offsets.{Placed, placed_none, placed_key, placed_leaf,
 
 -- what a member takes of a record: a key nothing, a schema or fixed array its width, as a leaf does
 key_width : (t : Token) → t.kind ≡ kind_of_key → member_width t ≡ 0
-unfolding member_width is_kind if◌then◌else◌
+unfolding member_width is_kind when◌then◌else◌
 key_width t e = rw e
 
 group_width : (o : Opening) (t : Token) → t.kind ≡ group_kind o → member_width t ≡ t.extent
@@ -39,17 +39,17 @@ element_slot row mark a offset = record { leaf_row = row; element = a; mark = ma
 module _ {A : Type 0} (a : A) where
   -- the slots of a member and those after it, by its kind
   leaves_key : (n at : ℕ) (t : Token) (after : Forest) → t.kind ≡ kind_of_key → leaves n (node t none after) a at ≡ leaves (suc n + size none) after a at
-  unfolding leaves member_width is_kind if◌then◌else◌
+  unfolding leaves member_width is_kind when◌then◌else◌
   leaves_key n at t after e = let z : at + 0 ≡ at = omega arith in rw (e, z)
 
   leaves_leaf : (n at : ℕ) (t : Token) (after : Forest) → t.kind ≡ kind_of_leaf
       → leaves n (node t none after) a at ≡ leaf_slot n t a at ∷ leaves (suc n + size none) after a (at + t.extent)
-  unfolding leaves member_width is_kind if◌then◌else◌
+  unfolding leaves member_width is_kind when◌then◌else◌
   leaves_leaf n at t after e = rw e
 
   leaves_group : (o : Opening) (n at : ℕ) (t : Token) (below after : Forest) → t.kind ≡ group_kind o
       → leaves n (node t below after) a at ≡ leaves (suc n) below a at ++ leaves (suc n + size below) after a (at + t.extent)
-  unfolding leaves member_width is_kind if◌then◌else◌
+  unfolding leaves member_width is_kind when◌then◌else◌
   leaves_group bracket n at t below after e = rw e
   leaves_group brace n at t below after e = rw e
 

@@ -11,7 +11,7 @@ use native.Mathlib.Nat.{mul_comm, mul-suc}
 use lib.ListN.{length}
 use lib.Dec.{ltb, eqb}
 use borrow.Author.Tests.{ltb-true, lt-ltb}
-use Rattle.format.specs.Conditions.{if◌then◌else◌}
+use Rattle.format.specs.Conditions.{when◌then◌else◌}
 use Rattle.format.specs.Tokens.{first_fastest}
 use Rattle.format.specs.Indexes.{product, in_range, count_from, below, each, last_moving, first_moving, indexes, last_number, first_number, number_in}
 use Rattle.storage.specs.Addresses.{Below, no_index, index}
@@ -197,27 +197,27 @@ numbered_first (d ∷ ds) =
 module _ (order : ℕ) (ds : List ℕ) where
   -- the formula numbers them 0, 1 and so on
   pub indexes_numbered : Numbered (number_in order ds) (product ds) 0 (indexes order ds)
-  unfolding indexes number_in if◌then◌else◌
+  unfolding indexes number_in when◌then◌else◌
   indexes_numbered = go (eqb order first_fastest)
     where
-      go : (b : Bool) → Numbered (λ is. if b then first_number ds is else last_number ds is) (product ds) 0 (if b then first_moving ds else last_moving ds)
+      go : (b : Bool) → Numbered (λ is. when b then first_number ds is else last_number ds is) (product ds) 0 (when b then first_moving ds else last_moving ds)
       go true = numbered_first ds
       go false = numbered_last ds
 
   -- all indexes in range are there
   pub in_indexes : {is : List ℕ} → Below is ds → Memᴰ is (indexes order ds)
-  unfolding indexes if◌then◌else◌
+  unfolding indexes when◌then◌else◌
   in_indexes {is} h = go (eqb order first_fastest)
     where
-      go : (b : Bool) → Memᴰ is (if b then first_moving ds else last_moving ds)
+      go : (b : Bool) → Memᴰ is (when b then first_moving ds else last_moving ds)
       go true = in_first h
       go false = in_last h
 
   -- and no others
   pub of_indexes : {is : List ℕ} → Memᴰ is (indexes order ds) → Below is ds
-  unfolding indexes if◌then◌else◌
+  unfolding indexes when◌then◌else◌
   of_indexes {is} m = go (eqb order first_fastest) m
     where
-      go : (b : Bool) → Memᴰ is (if b then first_moving ds else last_moving ds) → Below is ds
+      go : (b : Bool) → Memᴰ is (when b then first_moving ds else last_moving ds) → Below is ds
       go true m = of_first ds m
       go false m = of_last ds m

@@ -2,7 +2,7 @@
 use Prim.Native.Nat.{ℕ, ◌+◌}
 use mathlib.Core.Path.{◌≡◌, refl, sym, ap, ◌∙◌}
 use mathlib.Core.Bool.{Bool, true, false}
-use Rattle.format.specs.Conditions.{if◌then◌else◌}
+use Rattle.format.specs.Conditions.{when◌then◌else◌}
 use Rattle.format.specs.Marks.{Opening}
 use Rattle.format.specs.Tokens.{Token, Kind, key as kind_of_key, leaf as kind_of_leaf, is_kind, Forest, none, node}
 use Rattle.format.specs.Records.{member_width, total_width, at_offset, placed}
@@ -23,22 +23,22 @@ pub data Placed : ℕ → Forest → Type 0 where
 module _ (offset : ℕ) (t : Token) (below after : Forest) where
   -- a key keeps its place, any other member gets its offset
   key_placed : t.kind ≡ kind_of_key → placed offset (node t below after) ≡ node t below (placed offset after)
-  unfolding placed if◌then◌else◌
+  unfolding placed when◌then◌else◌
   key_placed e = let k : is_kind kind_of_key t.kind ≡ true = rw e key_kind in rw k
 
   pub member_placed : OfSchema t.kind → placed offset (node t below after) ≡ node (at_offset offset t) (placed offset below) (placed (offset + t.extent) after)
-  unfolding placed if◌then◌else◌
+  unfolding placed when◌then◌else◌
   member_placed s = rw s.not_key
 
 -- members are as wide as before
 pub width_placed : (offset : ℕ) (f : Forest) → total_width (placed offset f) ≡ total_width f
-unfolding placed total_width member_width at_offset if◌then◌else◌
+unfolding placed total_width member_width at_offset when◌then◌else◌
 width_placed offset none = refl
 width_placed offset (node t below after) = go (is_kind kind_of_key t.kind) refl (width_placed offset after) (width_placed (offset + t.extent) after)
   where
     go : (b : Bool) → is_kind kind_of_key t.kind ≡ b → total_width (placed offset after) ≡ total_width after → total_width (placed (offset + t.extent) after) ≡ total_width after
-        → total_width (if b then node t below (placed offset after) else node (at_offset offset t) (placed offset below) (placed (offset + t.extent) after))
-        ≡ (if b then 0 else t.extent) + total_width after
+        → total_width (when b then node t below (placed offset after) else node (at_offset offset t) (placed offset below) (placed (offset + t.extent) after))
+        ≡ (when b then 0 else t.extent) + total_width after
     go true e p q = rw e (ap (λ w. 0 + w) p)
     go false e p q = rw e (ap (λ w. t.extent + w) q)
 

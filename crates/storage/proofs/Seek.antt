@@ -10,7 +10,7 @@ use native.Mathlib.Decide.{dec_lt}
 use native.Mathlib.Numerals.{add-one}
 use lib.Dec.{ltb, eqb}
 use borrow.Author.Tests.{lt-ltb, le-ltb, eq-eqb, ne_eqb}
-use Rattle.format.specs.Conditions.{if◌then◌else◌}
+use Rattle.format.specs.Conditions.{when◌then◌else◌}
 use Rattle.format.specs.Outcome.{Outcome, fault, done, ◌>>=◌, ◌>>◌, guard}
 use Rattle.format.specs.Refusals.{rows_dont_fit}
 use Rattle.format.specs.Marks.{Opening, bracket, brace, opens, is_leaf, 'S'}
@@ -42,8 +42,8 @@ sought_as {n} {leaf_row} {f} o' e s = subst (λ x. Sought n f leaf_row x) (sym e
 -- a step of the walk at a member: it is the row sought, it has it below, or the walk goes on
 unfoldable visit : ℕ → ℕ → ℕ → Bool → Outcome ℕ → Outcome ℕ → Outcome ℕ
 visit leaf_row at link is_leaf inside rest =
-    if eqb at leaf_row then guard is_leaf rows_dont_fit 0 >> done at else
-    if ltb at leaf_row && ltb leaf_row link then (guard (not is_leaf) rows_dont_fit 0 >> (inside >>= (λ _. done at))) else
+    when eqb at leaf_row then guard is_leaf rows_dont_fit 0 >> done at else
+    when ltb at leaf_row && ltb leaf_row link then (guard (not is_leaf) rows_dont_fit 0 >> (inside >>= (λ _. done at))) else
     rest
 
 -- where a row stands to a member's
@@ -61,19 +61,19 @@ stands leaf_row at link = elim (dec_lt leaf_row at) [
 
 module _ (leaf_row at link : ℕ) (is_leaf : Bool) (inside rest : Outcome ℕ) where
   visit_itself : at ≡ leaf_row → visit leaf_row at link is_leaf inside rest ≡ (guard is_leaf rows_dont_fit 0 >> done at)
-  unfolding visit if◌then◌else◌
+  unfolding visit when◌then◌else◌
   visit_itself e = rw (eq-eqb at leaf_row e)
 
   visit_between : at < leaf_row → leaf_row < link → visit leaf_row at link is_leaf inside rest ≡ (guard (not is_leaf) rows_dont_fit 0 >> (inside >>= (λ _. done at)))
-  unfolding visit if◌then◌else◌
+  unfolding visit when◌then◌else◌
   visit_between p q = rw (ne_eqb at leaf_row (λ e. omega arith), lt-ltb at leaf_row p, lt-ltb leaf_row link q)
 
   visit_past : link ≤ leaf_row → at < link → visit leaf_row at link is_leaf inside rest ≡ rest
-  unfolding visit if◌then◌else◌
+  unfolding visit when◌then◌else◌
   visit_past p q = rw (ne_eqb at leaf_row (λ e. omega arith), lt-ltb at leaf_row (omega arith), le-ltb leaf_row link p)
 
   visit_before : leaf_row < at → visit leaf_row at link is_leaf inside rest ≡ rest
-  unfolding visit if◌then◌else◌
+  unfolding visit when◌then◌else◌
   visit_before p = rw (ne_eqb at leaf_row (λ e. omega arith), le-ltb at leaf_row (omega arith))
 
 no_leaf : {n leaf_row : ℕ} {t : Token} {below after : Forest} → (n ≡ leaf_row → t.kind ≡ kind_of_leaf → ⊥) → NoLeaf (suc n) below leaf_row → NoLeaf (suc n + size below) after leaf_row
@@ -157,19 +157,19 @@ module _ (ws : List ℕ) (leaf_row : ℕ) where
     -- at a member of a fixed array
     fixed_step : is_schema (row_at ws container) ≡ false
         → seek ws leaf_row (suc fuel) container at ≡ visit leaf_row at link (is_leaf_row (row_of t link (held_by container a))) (seek ws leaf_row fuel at (at + 1)) (seek ws leaf_row fuel container link)
-    unfolding seek visit if◌then◌else◌ ◌>>=◌
+    unfolding seek visit when◌then◌else◌ ◌>>=◌
     fixed_step k = rw (k, ends, child_done ws is_member container stop at link t a own_row fits up within, own_row)
 
     -- at the key of a schema's member
     schema_step : is_schema (row_at ws container) ≡ true → (n : ℕ) (u : Token) → row_at ws n ≡ row_of u at (held_by container a) → is_key (row_of u at (held_by container a)) ≡ true → n < at
         → seek ws leaf_row (suc fuel) container n ≡ visit leaf_row at link (is_leaf_row (row_of t link (held_by container a))) (seek ws leaf_row fuel at (at + 1)) (seek ws leaf_row fuel container link)
-    unfolding seek visit if◌then◌else◌ ◌>>=◌
+    unfolding seek visit when◌then◌else◌ ◌>>=◌
     schema_step k n u r h p = rw (k, ends, child_done ws is_key container stop n at u a r h p (omega arith), child_done ws is_member container stop at link t a own_row fits up within, own_row)
 
   -- no member is left
   end_step : (k : Bool) (fuel container n stop : ℕ) → is_schema (row_at ws container) ≡ k → (row_at ws container).link ≡ stop → stop ≤ n
       → seek ws leaf_row (suc fuel) container n ≡ fault rows_dont_fit 0
-  unfolding seek if◌then◌else◌ ◌>>=◌
+  unfolding seek when◌then◌else◌ ◌>>=◌
   end_step true fuel container n stop k e h = rw (k, e, along_over ws (child_of container is_key) stop n h)
   end_step false fuel container n stop k e h = rw (k, e, along_over ws (child_of container is_member) stop n h)
 

@@ -4,7 +4,7 @@ use mathlib.Core.Path.{◌≡◌, refl, sym, subst, ap, ◌∙◌}
 use mathlib.Core.List.{List, [], ◌∷◌, Memᴰ}
 use native.Mathlib.Nat.{mul-one}
 use lib.Dec.{eqb}
-use Rattle.format.specs.Conditions.{if◌then◌else◌}
+use Rattle.format.specs.Conditions.{when◌then◌else◌}
 use Rattle.format.specs.Marks.{Opening, bracket, brace, opens, width}
 use Rattle.format.specs.Tokens.{Token, leaf as kind_of_leaf, is_kind, plain_count, Forest, node, below_first, after_first, counts}
 use Rattle.format.specs.Records.{total_width}
@@ -23,8 +23,8 @@ use Rattle.storage.proofs.Leaves.{leaf_slot, element_slot}
 use Rattle.storage.proofs.Cuts.{formula_of, TableSlot, in_elements, of_elements, in_records, of_records}
 
 -- as many elements or records as the count says
-counted : {highest order n : ℕ} {f : Forest} → Shaped highest order n f → product (if eqb order plain_count then n ∷ [] else counts f) ≡ n
-unfolding product if◌then◌else◌
+counted : {highest order n : ℕ} {f : Forest} → Shaped highest order n f → product (when eqb order plain_count then n ∷ [] else counts f) ≡ n
+unfolding product when◌then◌else◌
 counted (plain {n = n}) = mul-one n
 counted (vector e h v) = rw e
 
@@ -36,20 +36,20 @@ numbered order n ds e = subst (λ x. Numbered (number_in order ds) x 0 (indexes 
 
 module _ (row : ℕ) (t : Token) (below : Forest) (ok : IsPacked t below) where
   -- its dimensions
-  pub packed_dimensions : dimensions_of t below ≡ (if eqb t.order plain_count then t.count ∷ [] else counts below)
-  unfolding dimensions_of is_kind if◌then◌else◌
+  pub packed_dimensions : dimensions_of t below ≡ (when eqb t.order plain_count then t.count ∷ [] else counts below)
+  unfolding dimensions_of is_kind when◌then◌else◌
   packed_dimensions = rw ok.kind_is
 
   packed_numbered : Numbered (number_in t.order (dimensions_of t below)) t.count 0 (indexes t.order (dimensions_of t below))
   packed_numbered = numbered t.order t.count (dimensions_of t below) (ap product packed_dimensions ∙ counted ok.shaped)
 
   packed_storage : storage row t below ≡ elements row t.mark (indexes t.order (dimensions_of t below))
-  unfolding storage slots_of is_kind if◌then◌else◌
+  unfolding storage slots_of is_kind when◌then◌else◌
   packed_storage = rw ok.kind_is
 
   -- the address of a slot
   pub packed_address : (s : Slot (List ℕ)) → address_of row t s ≡ in_packed row s.element
-  unfolding address_of is_kind if◌then◌else◌
+  unfolding address_of is_kind when◌then◌else◌
   packed_address s = rw ok.kind_is
 
   -- its slots lie end to end
@@ -74,7 +74,7 @@ module _ (row : ℕ) (t : Token) (below : Forest) (ok : IsPacked t below) where
 
 -- an opening's mark tells the layout
 pub layout_is : (o : Opening) → layout_of (opens o) ≡ o
-unfolding layout_of opens if◌then◌else◌
+unfolding layout_of opens when◌then◌else◌
 layout_is bracket = refl
 layout_is brace = refl
 
@@ -83,20 +83,20 @@ module _ (row : ℕ) (t s : Token) (members dims : Forest) (ok : IsTable t s mem
   abbrev ds : List ℕ
   ds = dimensions_of t (node s members dims)
 
-  pub table_dimensions : ds ≡ (if eqb t.order plain_count then t.count ∷ [] else counts dims)
-  unfolding dimensions_of is_kind if◌then◌else◌ after_first
+  pub table_dimensions : ds ≡ (when eqb t.order plain_count then t.count ∷ [] else counts dims)
+  unfolding dimensions_of is_kind when◌then◌else◌ after_first
   table_dimensions = rw ok.kind_is
 
   pub table_numbered : Numbered (number_in t.order ds) t.count 0 (indexes t.order ds)
   table_numbered = numbered t.order t.count ds (ap product table_dimensions ∙ counted ok.shaped)
 
   table_storage : storage row t (node s members dims) ≡ records ok.opening (member_row row) members (indexes t.order ds)
-  unfolding storage slots_of is_kind if◌then◌else◌ below_first
+  unfolding storage slots_of is_kind when◌then◌else◌ below_first
   table_storage = rw (ok.kind_is, ok.mark_is, layout_is ok.opening)
 
   -- the address of a slot
   pub table_address : (x : Slot (List ℕ)) → address_of row t x ≡ in_table row x.leaf_row x.element
-  unfolding address_of is_kind if◌then◌else◌
+  unfolding address_of is_kind when◌then◌else◌
   table_address x = rw ok.kind_is
 
   -- its slots lie end to end

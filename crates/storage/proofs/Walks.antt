@@ -7,7 +7,7 @@ use native.Mathlib.Omega.{arith}
 use lib.ListN.{length}
 use lib.Dec.{ltb, leb, eqb}
 use borrow.Author.Tests.{lt-ltb, le-ltb, le-leb, lt-leb, eq-eqb, ne_eqb}
-use Rattle.format.specs.Conditions.{if◌then◌else◌, between}
+use Rattle.format.specs.Conditions.{when◌then◌else◌, between}
 use Rattle.format.specs.Outcome.{fault, done, ◌>>=◌, ◌>>◌, guard}
 use Rattle.format.specs.Limits.{dimension_limit}
 use Rattle.format.specs.Refusals.{rows_dont_fit}
@@ -72,7 +72,7 @@ module _ (ws : List ℕ) where
 
   module _ (container stop : ℕ) (link-is : (row_at ws container).link ≡ stop) where
     from_done : {f : Forest} (a : Ancestry) (fuel n : ℕ) → Dimensioned f → Rowed ws n (held_by container a) f → stop ≡ n + size f → size f ≤ fuel → dimensions_from ws fuel container n ≡ done (counts f)
-    unfolding dimensions_from counts size if◌then◌else◌ ◌>>=◌ is_dimension row_of
+    unfolding dimensions_from counts size when◌then◌else◌ ◌>>=◌ is_dimension row_of
     from_done a zero n no_dimension r e h = refl
     from_done a (suc fuel) n no_dimension r e h = rw (link-is, le-leb stop n (omega arith))
     from_done a zero n (one_dimension i d) r e h = absurd (omega arith)
@@ -96,17 +96,17 @@ module _ (ws : List ℕ) where
         rw (from_done a (length ws) n v.dimensioned r e h, le-leb 1 (length (counts f)) (omega arith), le-leb (length (counts f)) dimension_limit (omega arith))
 
     shaped_done : {highest order count : ℕ} {f : Forest} (a : Ancestry) (n : ℕ) → Shaped highest order count f → Rowed ws n (held_by container a) f → stop ≡ n + size f → size f ≤ length ws
-        → (if eqb order plain_count then done (count ∷ []) else
+        → (when eqb order plain_count then done (count ∷ []) else
         (dimensions_from ws (length ws) container n >>= (λ ds. guard (between 1 dimension_limit (length ds)) rows_dont_fit 0 >> done ds)))
-        ≡ done (if eqb order plain_count then count ∷ [] else counts f)
-    unfolding if◌then◌else◌
+        ≡ done (when eqb order plain_count then count ∷ [] else counts f)
+    unfolding when◌then◌else◌
     shaped_done a n plain r e h = refl
     shaped_done a n (vector o _ v) r e h = rw o (vector_done a n v r e h)
 
   -- what a container's indexes are for
   pub dimensions-done : {highest : ℕ} {f : Forest} (container n stop : ℕ) (t : Token) (b a : Ancestry) → row_at ws container ≡ row_of t stop b → Shaped highest t.order t.count f
       → Rowed ws n (held_by container a) f → stop ≡ n + size f → size f ≤ length ws
-      → dimensions ws container n ≡ done (if eqb t.order plain_count then t.count ∷ [] else counts f)
+      → dimensions ws container n ≡ done (when eqb t.order plain_count then t.count ∷ [] else counts f)
   unfolding dimensions row_of
   dimensions-done container n stop t b a e s r q h = rw e (shaped_done container stop (ap (λ x. x.link) e) a n s r q h)
 

@@ -1,6 +1,6 @@
 -- 01, "Addresses and values": what an address is, what it names in the tokens of a message, and when it is in range.
 use Rattle.std.specs.Prelude.{ℕ, ◌+◌, ◌<◌, ◌≡◌, List, [], ◌∷◌}
-use Rattle.format.specs.Conditions.{if◌then◌else◌}
+use Rattle.format.specs.Conditions.{when◌then◌else◌}
 use Rattle.format.specs.Outcome.{Outcome}
 use Rattle.format.specs.Tokens.{Token, packed, table, leaf, is_kind, Forest, below_first}
 use Rattle.format.specs.Storage.{Slot, member_row, dimensions_of}
@@ -23,7 +23,7 @@ call ws message_bytes (in_table row leaf_row is) = table_slot ws message_bytes r
 
 -- the address of a slot of the token at this row, and its region: slots count from the payload's first byte
 unfoldable pub address_of : ℕ → Token → Slot (List ℕ) → Address
-address_of row t s = if is_kind packed t.kind then in_packed row s.element else in_table row s.leaf_row s.element
+address_of row t s = when is_kind packed t.kind then in_packed row s.element else in_table row s.leaf_row s.element
 
 unfoldable pub region_of : Token → Slot (List ℕ) → Region
 region_of t s = record { mark = s.mark; first = t.payload + s.offset; wide = s.wide }

@@ -1,6 +1,6 @@
 -- The editions as the C calls number them.
 use Rattle.std.specs.Prelude.{ℕ, List, eqb}
-use Rattle.format.specs.Conditions.{if◌then◌else◌}
+use Rattle.format.specs.Conditions.{when◌then◌else◌}
 use Rattle.format.specs.Outcome.{Outcome, fault, done, ◌>>=◌}
 use Rattle.format.specs.Refusals.{rows_dont_fit}
 use Rattle.format.specs.Tokens.{Forest}
@@ -25,7 +25,7 @@ no_edition = fault rows_dont_fit 0
 
 -- the grammar of an edition by its number
 unfoldable pub grammar_numbered : ℕ → Outcome Grammar
-grammar_numbered n = if eqb n old_edition then done old else if eqb n new_edition then done new else no_edition
+grammar_numbered n = when eqb n old_edition then done old else when eqb n new_edition then done new else no_edition
 
 -- the same, of the edition that a number names
 abbrev pub grammar_named : Named → Outcome Grammar

@@ -10,7 +10,7 @@ use lib.Bits.{bit_and, bit_or, and_mask, and_high, or_shifted}
 use lib.Ieee.{odd, binary32, to_bits}
 use lib.Ieee.Exact.{odd_sign}
 use borrow.Author.Tests.{ne_eqb}
-use Rattle.format.specs.Conditions.{if◌then◌else◌}
+use Rattle.format.specs.Conditions.{when◌then◌else◌}
 use Rattle.format.specs.Half.{sign_field, exponent_field, fraction_field, is_half_nan, half_value, single}
 use Rattle.values.proofs.SingleBits.{single_of, sign_bit}
 
@@ -25,13 +25,13 @@ sign_weight (suc (suc s)) h = absurd (omega arith)
 -- what `single` is, by sign, exponent and fraction
 by_fields : ℕ → ℕ → ℕ → ℕ
 by_fields s e f =
-    if eqb e 31 && not (eqb f 0) then s * 2 ^ 31 + 255 * 2 ^ 23 + f * 2 ^ 13 else
+    when eqb e 31 && not (eqb f 0) then s * 2 ^ 31 + 255 * 2 ^ 23 + f * 2 ^ 13 else
     to_bits binary32 (half_value (eqb s 1) e f)
 
 module _ (s f : ℕ) (bit : s < 2) where
   -- infinities and NaNs
   at_ones : s * 2 ^ 31 + 255 * 2 ^ 23 + f * 2 ^ 13 ≡ by_fields s 31 f
-  unfolding by_fields half_value to_bits if◌then◌else◌
+  unfolding by_fields half_value to_bits when◌then◌else◌
   at_ones = go f
     where
       go : (f : ℕ) → s * 2 ^ 31 + 255 * 2 ^ 23 + f * 2 ^ 13 ≡ by_fields s 31 f
@@ -40,12 +40,12 @@ module _ (s f : ℕ) (bit : s < 2) where
 
   -- subnormals
   at_zero : s * 2 ^ 31 + to_bits binary32 (half_value false 0 f) ≡ by_fields s 0 f
-  unfolding by_fields half_value if◌then◌else◌
+  unfolding by_fields half_value when◌then◌else◌
   at_zero = rw (sign_bit binary32 11 (eqb s 1) f 0 24, sign_weight s bit)
 
   -- the rest
   at_other : (e : ℕ) → 0 < e → e < 31 → f < 2 ^ 10 → s * 2 ^ 31 + (e + 112) * 2 ^ 23 + f * 2 ^ 13 ≡ by_fields s e f
-  unfolding by_fields half_value if◌then◌else◌
+  unfolding by_fields half_value when◌then◌else◌
   at_other zero low high few = absurd (omega arith)
   at_other (suc e) low high few =
       rw (ne_eqb (suc e) 31 (λ q. omega arith), single_of (odd 11 (eqb s 1) (2 ^ 10 + f) e 24) (eqb s 1) ((2 ^ 10 + f) * 2 ^ e) ((2 ^ 10 + f) * 2 ^ 13) (e + 112) (odd_sign 11 (eqb s 1) (2 ^ 10 + f) e 24) moved (omega arith) (omega arith), sign_weight s bit)

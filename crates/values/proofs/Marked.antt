@@ -9,7 +9,7 @@ use lib.ListN.{length}
 use lib.Seq.{take-length}
 use lib.Dec.{ltb, eqb}
 use borrow.Author.Tests.{eqb-true}
-use Rattle.format.specs.Conditions.{if◌then◌else◌, all, among}
+use Rattle.format.specs.Conditions.{when◌then◌else◌, all, among}
 use Rattle.format.specs.Marks.{integers, signed_integers, is_signed, types, is_scalar, width, leaf_width, letter_of, 'F', 'T', 'Z'}
 use Rattle.format.specs.Tokens.{Kind, leaf, is_kind}
 use Rattle.format.specs.Bytes.{little, bytes}
@@ -25,20 +25,20 @@ unfolding is_scalar types integers all
 letter_scalar word = letter_among ('Z' ∷ 'T' ∷ 'F' ∷ types) word refl refl
 
 pub letter_is : (word : ℕ) → is_scalar word ≡ true → letter_of word ≡ word
-unfolding is_scalar types integers all among letter_of if◌then◌else◌
+unfolding is_scalar types integers all among letter_of when◌then◌else◌
 letter_is word e = rw (among_passes (λ x. ltb x 256) ('Z' ∷ 'T' ∷ 'F' ∷ types) word refl e)
 
 -- in a record a signed integer is as wide as ever
 pub signed_wide : (mark : ℕ) → is_signed mark ≡ true → leaf_width mark ≡ width mark
-unfolding is_signed signed_integers all among width leaf_width if◌then◌else◌
+unfolding is_signed signed_integers all among width leaf_width when◌then◌else◌
 signed_wide mark e = eqb-true (leaf_width mark) (width mark) (among_passes (λ x. eqb (leaf_width x) (width x)) signed_integers mark refl e)
 
 -- what a mark asks for in a token of any kind is what it asks for in a record, or less
 due_least : (kind : Kind) (mark : ℕ) → due kind mark ≤ leaf_width mark
-unfolding due leaf_width width among if◌then◌else◌
+unfolding due leaf_width width among when◌then◌else◌
 due_least kind mark = go (is_kind leaf kind) (eqb mark 'T') refl
   where
-    go : (a b : Bool) → eqb mark 'T' ≡ b → (if a then (if b then 1 else width mark) else width mark) ≤ (if b then 1 else width mark)
+    go : (a b : Bool) → eqb mark 'T' ≡ b → (when a then (when b then 1 else width mark) else width mark) ≤ (when b then 1 else width mark)
     go true b e = omega arith
     go false true e = rw (eqb-true mark 'T' e) (omega arith)
     go false false e = omega arith
@@ -54,10 +54,10 @@ marked kind mark wide e = go (is_scalar mark) (eqb wide (due kind mark)) refl e
 
 -- eight bytes at most
 leaf_few : (mark : ℕ) → leaf_width mark ≤ 8
-unfolding leaf_width if◌then◌else◌
+unfolding leaf_width when◌then◌else◌
 leaf_few mark = go (eqb mark 'T')
   where
-    go : (b : Bool) → (if b then 1 else width mark) ≤ 8
+    go : (b : Bool) → (when b then 1 else width mark) ≤ 8
     go true = omega arith
     go false = width_few mark
 

@@ -10,7 +10,7 @@ use mir.Syntax.{w64}
 use mir.Val.{SFits, to_z, of_z}
 use mir.Facts.{to_z-of_z, to_z_pos}
 use borrow.Author.Tests.{le-leb, lt-leb}
-use Rattle.format.specs.Conditions.{if◌then◌else◌}
+use Rattle.format.specs.Conditions.{when◌then◌else◌}
 use Rattle.format.specs.Marks.{is_signed, width}
 use Rattle.format.specs.Integers.{is_negative}
 use Rattle.format.specs.Values.{twos_complement}
@@ -66,9 +66,9 @@ module _ (mark n w half : ℕ) (signed : is_signed mark ≡ true) (is : w ≡ wi
   bound = k.twice ∙ ap (λ x. 256 ^ x) is
 
   pub positive : n < half → pos n ≡ twos_complement mark n
-  unfolding twos_complement is_negative if◌then◌else◌
+  unfolding twos_complement is_negative when◌then◌else◌
   positive h = rw (signed, lt-leb (256 ^ width mark) (2 * n) (omega (arith, bound)))
 
   pub negative : half ≤ n → negsuc ((half - 1) - (n - half)) ≡ twos_complement mark n
-  unfolding twos_complement is_negative if◌then◌else◌
+  unfolding twos_complement is_negative when◌then◌else◌
   negative h = rw (signed, le-leb (256 ^ width mark) (2 * n) (omega (arith, bound))) (ap negsuc (omega (arith, bound)))

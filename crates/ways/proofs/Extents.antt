@@ -8,7 +8,7 @@ use lib.ListN.{length, take, set, length-append}
 use lib.Seq.{take-suc-set}
 use lib.Dec.{leb}
 use borrow.Author.Tests.{eq-eqb, ne_eqb, le-leb, lt-leb}
-use Rattle.format.specs.Conditions.{if◌then◌else◌, between}
+use Rattle.format.specs.Conditions.{when◌then◌else◌, between}
 use Rattle.format.specs.Outcome.{Outcome, fault, done, guard, ◌>>=◌, ◌>>◌}
 use Rattle.format.specs.Limits.{dimension_limit}
 use Rattle.format.specs.Refusals.{rows_dont_fit}
@@ -59,16 +59,16 @@ module _ (ws : List ℕ) (container stop : ℕ) (ends : stop ≡ (row_at ws cont
   -- a dimension and those after it, the end, and a row that can't be followed
   one_more : (fuel row next : ℕ) → row < stop → along ws (child_of container is_dimension) stop row ≡ done next
       → dimensions_from ws (suc fuel) container row ≡ (dimensions_from ws fuel container next >>= λ ds. done ((row_at ws row).count ∷ ds))
-  unfolding dimensions_from if◌then◌else◌ ◌>>=◌
+  unfolding dimensions_from when◌then◌else◌ ◌>>=◌
   one_more fuel row next h e = rw (← ends, lt-leb stop row h, e) refl
 
   no_more : (fuel row : ℕ) → stop ≤ row → dimensions_from ws fuel container row ≡ done []
-  unfolding dimensions_from if◌then◌else◌
+  unfolding dimensions_from when◌then◌else◌
   no_more zero row h = refl
   no_more (suc fuel) row h = rw (← ends, le-leb stop row h) refl
 
   no_way : (fuel row n : ℕ) → row < stop → along ws (child_of container is_dimension) stop row ≡ fault n 0 → dimensions_from ws (suc fuel) container row ≡ fault n 0
-  unfolding dimensions_from if◌then◌else◌ ◌>>=◌
+  unfolding dimensions_from when◌then◌else◌ ◌>>=◌
   no_way fuel row n h e = rw (← ends, lt-leb stop row h, e) refl
 
 module _ (ws : List ℕ) (container stop : ℕ) where
@@ -94,7 +94,7 @@ module _ (ws : List ℕ) (container stop : ℕ) where
       rw (k, take-suc-set into many x few, q) (sofar_on from row next (take many into) s h e)
 
   told : (fuel row : ℕ) → Told (dimensions_from ws fuel container row)
-  unfolding dimensions_from if◌then◌else◌ ◌>>=◌
+  unfolding dimensions_from when◌then◌else◌ ◌>>=◌
   told zero row = all_told
   told (suc fuel) row = go (λ k. told fuel k) (leb (row_at ws container).link row)
     where
@@ -107,7 +107,7 @@ module _ (ws : List ℕ) (container stop : ℕ) where
       on rest o (follows {next = next} f) = join (dimensions_from ws fuel container next) (rest next)
       on rest o stuck = not_told
 
-      go : ((k : ℕ) → Told (dimensions_from ws fuel container k)) → (b : Bool) → Told (if b then done [] else (along ws (child_of container is_dimension) (row_at ws container).link row >>= λ next.
+      go : ((k : ℕ) → Told (dimensions_from ws fuel container k)) → (b : Bool) → Told (when b then done [] else (along ws (child_of container is_dimension) (row_at ws container).link row >>= λ next.
           dimensions_from ws fuel container next >>= λ ds. done ((row_at ws row).count ∷ ds)))
       go rest true = all_told
       go rest false = on rest (along ws (child_of container is_dimension) (row_at ws container).link row) (walked ws (child_of container is_dimension) (row_at ws container).link row)
@@ -149,12 +149,12 @@ module _ (ws : List ℕ) (container stop : ℕ) where
 -- a plain count is the one extent
 pub plain_extent : (ws : List ℕ) (container from : ℕ) (r : Row) → r ≡ row_at ws container → r.order ≡ plain_count
     → (into : List ℕ) → length into ≡ dimension_limit → dimensions ws container from ≡ done (take 1 (set into 0 r.count))
-unfolding dimensions if◌then◌else◌
+unfolding dimensions when◌then◌else◌
 plain_extent ws container from r e o into l =
     rw (← e, eq-eqb _ _ o) (ap done (sym (take-suc-set into 0 r.count (omega arith))))
 
 -- else there are dimensions
 pub shaped_extents : (ws : List ℕ) (container from : ℕ) (r : Row) → r ≡ row_at ws container → (r.order ≡ plain_count → ⊥)
     → dimensions ws container from ≡ some_few ws container from
-unfolding dimensions some_few if◌then◌else◌
+unfolding dimensions some_few when◌then◌else◌
 shaped_extents ws container from r e o = rw (← e, ne_eqb _ _ o) refl

@@ -6,7 +6,7 @@ use mathlib.Core.List.{List}
 use native.Mathlib.Omega.{arith}
 use lib.ListN.{length}
 use borrow.Author.Tests.{eq-eqb, ne_eqb, lt-ltb, le-ltb}
-use Rattle.format.specs.Conditions.{if◌then◌else◌}
+use Rattle.format.specs.Conditions.{when◌then◌else◌}
 use Rattle.format.specs.Outcome.{Outcome, fault, done, guard, ◌>>=◌, ◌>>◌}
 use Rattle.format.specs.Refusals.{rows_dont_fit}
 use Rattle.format.specs.Rows.{Row, row_at, rows_in}
@@ -29,36 +29,36 @@ module _ (ws : List ℕ) (leaf_row container : ℕ) (c : Row) (here : ℕ) where
 
     -- the leaf stands before it, or after it
     pub pass_before : leaf_row < here → Passes ws leaf_row container c here (Next next)
-    unfolding passing if◌then◌else◌ ◌>>=◌
+    unfolding passing when◌then◌else◌ ◌>>=◌
     pass_before h =
         ((λ inside after. rw (e, ne_eqb here leaf_row (λ q. omega arith), le-ltb here leaf_row (omega arith)) refl), goes)
 
     pub pass_after : next ≤ leaf_row → Passes ws leaf_row container c here (Next next)
-    unfolding passing if◌then◌else◌ ◌>>=◌
+    unfolding passing when◌then◌else◌ ◌>>=◌
     pass_after h =
         let up = goes.up in
         ((λ inside after. rw (e, ne_eqb here leaf_row (λ q. omega arith), lt-ltb here leaf_row (omega arith), le-ltb leaf_row next h) refl), goes)
 
     -- it is the leaf's row
     pub pass_leaf : leaf_row ≡ here → is_leaf_row (row_at ws here) ≡ true → Passes ws leaf_row container c here (Leaf here)
-    unfolding passing if◌then◌else◌ guard ◌>>=◌ ◌>>◌
+    unfolding passing when◌then◌else◌ guard ◌>>=◌ ◌>>◌
     pass_leaf h l = let g = goes.inside in ((λ inside after. rw (e, eq-eqb here leaf_row (sym h), l) refl), sym h, omega arith)
 
     pub pass_no_leaf : leaf_row ≡ here → is_leaf_row (row_at ws here) ≡ false → Passes ws leaf_row container c here (Refused rows_dont_fit)
-    unfolding passing if◌then◌else◌ guard ◌>>=◌ ◌>>◌
+    unfolding passing when◌then◌else◌ guard ◌>>=◌ ◌>>◌
     pass_no_leaf h l inside after = rw (e, eq-eqb here leaf_row (sym h), l) refl
 
     -- the leaf's row stands inside it
     module _ (apart : leaf_row ≡ here → ⊥) (low : here ≤ leaf_row) (high : leaf_row < next) where
       pub pass_inside : is_leaf_row (row_at ws here) ≡ false → Passes ws leaf_row container c here (Inside here)
-      unfolding passing if◌then◌else◌ guard ◌>>=◌ ◌>>◌
+      unfolding passing when◌then◌else◌ guard ◌>>=◌ ◌>>◌
       pass_inside l =
           let less : here < leaf_row = omega arith in
           let g = goes in
           ((λ inside after. rw (e, ne_eqb here leaf_row (λ q. apart (sym q)), lt-ltb here leaf_row less, lt-ltb leaf_row next high, l) refl), refl, subst (Goes ws c here) (sym g.link) g)
 
       pub pass_in_leaf : is_leaf_row (row_at ws here) ≡ true → Passes ws leaf_row container c here (Refused rows_dont_fit)
-      unfolding passing if◌then◌else◌ guard ◌>>=◌ ◌>>◌
+      unfolding passing when◌then◌else◌ guard ◌>>=◌ ◌>>◌
       pass_in_leaf l inside after =
           let less : here < leaf_row = omega arith in
           rw (e, ne_eqb here leaf_row (λ q. apart (sym q)), lt-ltb here leaf_row less, lt-ltb leaf_row next high, l) refl
@@ -67,10 +67,10 @@ module _ (ws : List ℕ) (leaf_row container : ℕ) (c : Row) (here : ℕ) where
 
 -- the member stands at the row or after it
 member_up : (ws : List ℕ) (container : ℕ) (c : Row) (row here : ℕ) → member_from ws container c row ≡ done here → row ≤ here
-unfolding member_from if◌then◌else◌
+unfolding member_from when◌then◌else◌
 member_up ws container c row here = go (is_schema c)
   where
-    go : (b : Bool) → (if b then along ws (child_of container is_key) c.link row else done row) ≡ done here → row ≤ here
+    go : (b : Bool) → (when b then along ws (child_of container is_key) c.link row else done row) ≡ done here → row ≤ here
     go true e = let up = (followed ws (child_of container is_key) c.link row here e).up in omega arith
     go false e = let q : row ≡ here = cc in omega arith
 

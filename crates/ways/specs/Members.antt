@@ -1,6 +1,6 @@
 -- The walk over the members of a schema, one member at a time.
 use Rattle.std.specs.Prelude.{ℕ, zero, suc, ◌+◌, ◌≤◌, ◌<◌, ◌≡◌, not, ◌&&◌, List, ltb, eqb}
-use Rattle.format.specs.Conditions.{if◌then◌else◌}
+use Rattle.format.specs.Conditions.{when◌then◌else◌}
 use Rattle.format.specs.Outcome.{Outcome, fault, done, guard, ◌>>=◌, ◌>>◌}
 use Rattle.format.specs.Refusals.{rows_dont_fit}
 use Rattle.format.specs.Rows as Rows
@@ -13,7 +13,7 @@ use Rattle.ways.specs.declared.members.Step.TheVariants.{Refused, Leaf, Inside, 
 
 -- the member that stands at a row of a container, or where the key's link leads
 unfoldable pub member_from : List ℕ → ℕ → Rows.Row → ℕ → Outcome ℕ
-member_from ws container c row = if is_schema c then along ws (child_of container is_key) c.link row else done row
+member_from ws container c row = when is_schema c then along ws (child_of container is_key) c.link row else done row
 
 -- the first member that was gone into, where 0 is none yet, else the one that stands here
 unfoldable pub outermost_of : ℕ → ℕ → ℕ
@@ -25,8 +25,8 @@ unfoldable pub passing : List ℕ → ℕ → ℕ → Rows.Row → ℕ → (ℕ 
 passing ws leaf_row container c here inside after = do
   next ← along ws (child_of container is_member) c.link here
   let r = row_at ws here
-  if eqb here leaf_row then guard (is_leaf_row r) rows_dont_fit 0 >> done here else
-      if ltb here leaf_row && ltb leaf_row next then (do
+  when eqb here leaf_row then guard (is_leaf_row r) rows_dont_fit 0 >> done here else
+      when ltb here leaf_row && ltb leaf_row next then (do
         guard (not (is_leaf_row r)) rows_dont_fit 0
         _ ← inside here
         done here) else

@@ -2,7 +2,7 @@
 -- what stands before those below it, and what after them. A table has its schema below it, then something between, then its dimensions.
 -- An extension is written as these are: its mark, none below it, and then the rest.
 use Rattle.std.specs.Prelude.{ℕ, Bool, List, [], ◌∷◌, ◌++◌, eqb}
-use Rattle.format.specs.Conditions.{if◌then◌else◌, among}
+use Rattle.format.specs.Conditions.{when◌then◌else◌, among}
 use Rattle.format.specs.Marks.{opening_of, closes, letter_of, 'S', '#', '$', '['}
 use Rattle.format.specs.Tokens.{kind_number, scalar, text, high_precision, key, array, object, packed, table, leaf, schema_record, dimension, extension}
 use Rattle.format.specs.Rows.{Row}
@@ -22,9 +22,9 @@ is_list = among (kind_number array ∷ kind_number object ∷ [])
 -- before those below it
 unfoldable pub head : Row → List ℕ
 head r =
-    if is_list r.kind then letter_of r.mark ∷ '#' ∷ small_integer r.count else
-    if eqb r.kind (kind_number packed) then '[' ∷ '$' ∷ letter_of r.mark ∷ '#' ∷ shape_start r.order r.count else
-    if eqb r.kind (kind_number table) then letter_of r.mark ∷ '$' ∷ [] else
+    when is_list r.kind then letter_of r.mark ∷ '#' ∷ small_integer r.count else
+    when eqb r.kind (kind_number packed) then '[' ∷ '$' ∷ letter_of r.mark ∷ '#' ∷ shape_start r.order r.count else
+    when eqb r.kind (kind_number table) then letter_of r.mark ∷ '$' ∷ [] else
     letter_of r.mark ∷ []
 
 -- of a table, between its schema and its dimensions
@@ -39,16 +39,16 @@ module _ (m : List ℕ) where
   -- a token that is written whole
   unfoldable pub single : Row → List ℕ
   single r =
-      if eqb r.kind (kind_number scalar) then letter_of r.mark ∷ payload_at r else
-      if eqb r.kind (kind_number key) then small_integer r.extent ++ payload_at r else
-      if eqb r.kind (kind_number leaf) then letter_of r.mark ∷ (if eqb (letter_of r.mark) 'S' then small_integer r.extent else []) else
-      if eqb r.kind (kind_number dimension) then small_integer r.count else
+      when eqb r.kind (kind_number scalar) then letter_of r.mark ∷ payload_at r else
+      when eqb r.kind (kind_number key) then small_integer r.extent ++ payload_at r else
+      when eqb r.kind (kind_number leaf) then letter_of r.mark ∷ (when eqb (letter_of r.mark) 'S' then small_integer r.extent else []) else
+      when eqb r.kind (kind_number dimension) then small_integer r.count else
       letter_of r.mark ∷ small_integer r.extent ++ payload_at r
 
   -- after those below it
   unfoldable pub tail : Row → List ℕ
   tail r =
-      if is_list r.kind then [] else
-      if among (kind_number packed ∷ kind_number table ∷ []) r.kind then shape_end r.order ++ payload_at r else
-      if eqb r.kind (kind_number extension) then id_bytes m r.first ++ (small_integer r.extent ++ payload_at r) else
+      when is_list r.kind then [] else
+      when among (kind_number packed ∷ kind_number table ∷ []) r.kind then shape_end r.order ++ payload_at r else
+      when eqb r.kind (kind_number extension) then id_bytes m r.first ++ (small_integer r.extent ++ payload_at r) else
       closes (opening_of (eqb r.kind (kind_number schema_record))) ∷ []

@@ -2,7 +2,7 @@
 use mathlib.Core.Path.{sym, ◌∙◌, ap}
 use native.Mathlib.Omega.{arith}
 use borrow.Author.Rules.{rules}
-use Rattle.format.specs.Conditions.{if◌then◌else◌}
+use Rattle.format.specs.Conditions.{when◌then◌else◌}
 use Rattle.format.specs.Outcome.{◌>>=◌}
 use Rattle.format.specs.Tokens.{is_kind, members}
 use Rattle.tokens.specs.Answers.{placed}
@@ -11,18 +11,18 @@ use Rattle.tokens.proofs.Laying.{laid_alone}
 use Rattle.extensions.proofs.extension.Goals as goal
 
 pub returns-then-lent-row-clause-meets : goal.returns-then-lent-row-clause-meets
-unfolding members is_kind if◌then◌else◌ ◌>>=◌
+unfolding members is_kind when◌then◌else◌ ◌>>=◌
 returns-then-lent-row-clause-meets c =
     extension_no_row _ _ _ _ c.if-lent-row.true
 
 pub returns-in-Refused-payload_end-clause-meets : goal.returns-in-Refused-payload_end-clause-meets
-unfolding members is_kind if◌then◌else◌ ◌>>=◌
+unfolding members is_kind when◌then◌else◌ ◌>>=◌
 returns-in-Refused-payload_end-clause-meets c =
     let k = rw c.in-Of.is at c.head_at.ensures.meets in
     let p = sym c.payload_end.ensures.is ∙ ap placed c.in-Refused-payload_end.is in rw p at (k _ _ c.if-lent-row.false)
 
 pub returns-in-At-clause-meets : goal.returns-in-At-clause-meets
-unfolding members is_kind if◌then◌else◌ ◌>>=◌
+unfolding members is_kind when◌then◌else◌ ◌>>=◌
 returns-in-At-clause-meets c =
     let h = c.head_at in
     let e = c.in-Of.is in

@@ -43,7 +43,7 @@ returns-in_default-along c =
     let reach : c.load-k.result.payload + c.load-k.result.extent ≤ length c.args.message.now = inside c.args.message.now _ _ (rw (← key_row) at (member_is _ _ _ _ _ (sym is)).inside) in
     let names_are : named c.args.message.now c.args.rows.now c.args.name.now c.members.key ≡ same (bytes c.args.message.now c.load-k.result.payload c.load-k.result.extent) c.args.name.now = names _ _ _ _ _ key_row in
     let differs : named c.args.message.now c.args.rows.now c.args.name.now c.members.key ≡ false = names_are ∙ elim c.bytes-test.branch [
-      else-bytes-test w ↦ other_length _ _ _ _ reach w.bytes-test.false
+      | else-bytes-test w ↦ other_length _ _ _ _ reach w.bytes-test.false
       | then-bytes-test+else-i-wide+then-message-first w ↦ other_byte _ _ _ _ reach c.bytes.i (let l = w.if-i-wide.false in let h = c.bytes.invariant.1 in omega arith) w.if-message-first.true
     ] in
     barred _ _ _ _ _ _ c.members.invariant.1 c.members-test.true _ is differs _ (rw c.in_default-along.is at c.along.ensures)
@@ -55,7 +55,7 @@ members-smaller c =
     let reach : c.load-k.result.payload + c.load-k.result.extent ≤ length c.args.message.now = inside c.args.message.now _ _ (rw (← key_row) at (member_is _ _ _ _ _ (sym is)).inside) in
     let names_are : named c.args.message.now c.args.rows.now c.args.name.now c.members.key ≡ same (bytes c.args.message.now c.load-k.result.payload c.load-k.result.extent) c.args.name.now = names _ _ _ _ _ key_row in
     let differs : named c.args.message.now c.args.rows.now c.args.name.now c.members.key ≡ false = names_are ∙ elim c.bytes-test.branch [
-      else-bytes-test w ↦ other_length _ _ _ _ reach w.bytes-test.false
+      | else-bytes-test w ↦ other_length _ _ _ _ reach w.bytes-test.false
       | then-bytes-test+else-i-wide+then-message-first w ↦ other_byte _ _ _ _ reach c.bytes.i (let l = w.if-i-wide.false in let h = c.bytes.invariant.1 in omega arith) w.if-message-first.true
     ] in
     omega (arith, higher _ _ _ _ _ _ c.members.invariant.1 c.members-test.true _ is differs _ (rw c.in-Row-along.is at c.along.ensures))
@@ -67,7 +67,7 @@ members-preserved c =
     let reach : c.load-k.result.payload + c.load-k.result.extent ≤ length c.args.message.now = inside c.args.message.now _ _ (rw (← key_row) at (member_is _ _ _ _ _ (sym is)).inside) in
     let names_are : named c.args.message.now c.args.rows.now c.args.name.now c.members.key ≡ same (bytes c.args.message.now c.load-k.result.payload c.load-k.result.extent) c.args.name.now = names _ _ _ _ _ key_row in
     let differs : named c.args.message.now c.args.rows.now c.args.name.now c.members.key ≡ false = names_are ∙ elim c.bytes-test.branch [
-      else-bytes-test w ↦ other_length _ _ _ _ reach w.bytes-test.false
+      | else-bytes-test w ↦ other_length _ _ _ _ reach w.bytes-test.false
       | then-bytes-test+else-i-wide+then-message-first w ↦ other_byte _ _ _ _ reach c.bytes.i (let l = w.if-i-wide.false in let h = c.bytes.invariant.1 in omega arith) w.if-message-first.true
     ] in
     (c.bytes.invariant.0, onward _ _ _ _ _ _ c.members.invariant.1 c.members-test.true _ is differs _ (rw c.in-Row-along.is at c.along.ensures))
@@ -82,5 +82,5 @@ returns-then-i-wide c =
     let key_row : row_of c.load-k.result ≡ row_at c.args.rows.now c.members.key = c.load-k.ensures.there (omega (arith, c.members-test.true, c.requires)) in
     let reach : c.load-k.result.payload + c.load-k.result.extent ≤ length c.args.message.now = inside c.args.message.now _ _ (rw (← key_row) at (member_is _ _ _ _ _ (sym is)).inside) in
     let names-are : named c.args.message.now c.args.rows.now c.args.name.now c.members.key
-      ≡ same (bytes c.args.message.now c.load-k.result.payload c.load-k.result.extent) c.args.name.now = names _ _ _ _ _ key_row in
+    ≡ same (bytes c.args.message.now c.load-k.result.payload c.load-k.result.extent) c.args.name.now = names _ _ _ _ _ key_row in
     hit _ _ _ _ _ _ c.members.invariant.1 c.members-test.true _ (is) (names-are ∙ equal _ _ _ _ (reach) c.bytes-test.true (rw (← c.if-i-wide.true) c.bytes.invariant.2))

@@ -7,7 +7,7 @@ use native.Mathlib.Omega.{arith}
 use lib.ListN.{length-set}
 use borrow.Author.Rules.{rules}
 use borrow.Author.Tests.{lt-ltb, le-ltb}
-use Rattle.format.specs.Conditions.{if◌then◌else◌}
+use Rattle.format.specs.Conditions.{when◌then◌else◌}
 use Rattle.format.specs.Rows as Rows
 use Rattle.rows.specs.Row as Row
 use Rattle.rows.proofs.store.Goals as goal
@@ -17,11 +17,11 @@ add-nine : (n : ℕ) → n + 9 ≡ suc (suc (suc (suc (suc (suc (suc (suc (suc n
 add-nine n = add-suc n 8 ∙ ap suc (add_eight n)
 
 pub returns-then-rows-row : goal.returns-then-rows-row
-unfolding Row.store Rows.rows_in Rows.layout if◌then◌else◌
+unfolding Row.store Rows.rows_in Rows.layout when◌then◌else◌
 returns-then-rows-row c =
     simp (le-ltb _ _ c.if-rows-row.true)
 
 pub returns : goal.returns
-unfolding Row.store Rows.rows_in Rows.layout if◌then◌else◌
+unfolding Row.store Rows.rows_in Rows.layout when◌then◌else◌
 returns c =
     simp (lt-ltb _ _ c.if-rows-row.false, add-nine, unary_clauses)

@@ -1,16 +1,16 @@
 -- `first`: the minus, or what `leading` says. Assumes nothing.
 use borrow.Author.Rules.{rules}
 use borrow.Author.Tests.{eq-eqb, ne_eqb}
-use Rattle.format.specs.Conditions.{if◌then◌else◌}
+use Rattle.format.specs.Conditions.{when◌then◌else◌}
 use Rattle.format.specs.JsonNumber as Json
 use Rattle.content.proofs.json.first.Goals as goal
 
 pub returns-then-b-eq45 : goal.returns-then-b-eq45
-unfolding Json.step if◌then◌else◌
+unfolding Json.step when◌then◌else◌
 returns-then-b-eq45 c =
     rw (eq-eqb _ _ c.if-b-eq45.true)
 
 pub returns : goal.returns
-unfolding Json.step if◌then◌else◌
+unfolding Json.step when◌then◌else◌
 returns c =
     rw (ne_eqb _ _ c.if-b-eq45.false) c.leading.ensures

@@ -28,23 +28,22 @@ pub returns-then-stands-clause-is : goal.returns-then-stands-clause-is
 unfolding closes
 returns-then-stands-clause-is c =
     (λ wide lent row next s t.
-      let m = c.args.message.now in
-      let r = c.loop-i.invariant.2 wide lent row next s t in
-      let u = fields_turned m lent c.args.count r c.after_key-from.result c.field-walk.result t.narrow t.few t.short t.inside c.after_key-from.ensures c.field-walk.ensures.is in
-      (turn_closed m lent 7 true r (fields_sum m c.args.count) c.field-walk.result u (stands_there m c.field-walk.result.next (closes brace) (sym c.stands.ensures ∙ c.if-stands.true)).1).1.1)
+    let m = c.args.message.now in
+    let r = c.loop-i.invariant.2 wide lent row next s t in
+    let u = fields_turned m lent c.args.count r c.after_key-from.result c.field-walk.result t.narrow t.few t.short t.inside c.after_key-from.ensures c.field-walk.ensures.is in
+    (turn_closed m lent 7 true r (fields_sum m c.args.count) c.field-walk.result u (stands_there m c.field-walk.result.next (closes brace) (sym c.stands.ensures ∙ c.if-stands.true)).1).1.1)
 
 pub returns-then-next-i-clause-is : goal.returns-then-next-i-clause-is
 returns-then-next-i-clause-is c =
     (λ wide lent row next s t.
-      let m = c.args.message.now in
-      let r = c.loop-i.invariant.2 wide lent row next s t in
-      let u = fields_turned m lent c.args.count r c.after_key-from.result c.field-walk.result t.narrow t.few t.short t.inside c.after_key-from.ensures c.field-walk.ensures.is in
-      let d = turn_on m lent 7 true r (fields_sum m c.args.count) c.field-walk.result u in absurd (omega arith))
+    let m = c.args.message.now in
+    let r = c.loop-i.invariant.2 wide lent row next s t in
+    let u = fields_turned m lent c.args.count r c.after_key-from.result c.field-walk.result t.narrow t.few t.short t.inside c.after_key-from.ensures c.field-walk.ensures.is in
+    let d = turn_on m lent 7 true r (fields_sum m c.args.count) c.field-walk.result u in absurd (omega arith))
 
 pub loop-i-preserved : goal.loop-i-preserved
 unfolding closes
-loop-i-preserved c =
-    (
+loop-i-preserved c = (
   c.field-walk.ensures.bounds.near,
   (let p = c.field-walk.ensures.bounds.low in let q = c.loop-i.invariant.1 in omega arith),
   (λ wide lent row next s t.
@@ -57,5 +56,5 @@ loop-i-preserved c =
 pub returns-clause-is : goal.returns-clause-is
 returns-clause-is c =
     (λ wide lent row next s t.
-      let r = c.loop-i.invariant.2 wide lent row next s t in
-      let h = inside c.args.message.now lent 7 true r in absurd (omega arith))
+    let r = c.loop-i.invariant.2 wide lent row next s t in
+    let h = inside c.args.message.now lent 7 true r in absurd (omega arith))

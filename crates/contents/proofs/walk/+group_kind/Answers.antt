@@ -23,14 +23,13 @@ group-returns-then-levels-eq0-clause-is t c =
 pub group-returns-then-message-at-clause-is : goal.group-returns-then-message-at-clause-is
 group-returns-then-message-at-clause-is t c =
     (λ lent row next f l e i.
-      let a = c.args in
-      let z = c.if-levels-eq0.false in
-      let q : a.levels ≡ suc (a.levels - 1) = omega arith in
-      let h = opened_there (opened _ _ _ (a.levels - 1) _ _ _ _ _ q e) in absurd (omega arith))
+    let a = c.args in
+    let z = c.if-levels-eq0.false in
+    let q : a.levels ≡ suc (a.levels - 1) = omega arith in
+    let h = opened_there (opened _ _ _ (a.levels - 1) _ _ _ _ _ q e) in absurd (omega arith))
 
 pub group-loop-i-init : goal.group-loop-i-init
-group-loop-i-init t c =
-    (
+group-loop-i-init t c = (
   c.requires.near,
   omega arith,
   (λ lent row next f l e i.
@@ -47,24 +46,23 @@ group-overflow_add-whole t c =
 pub group-returns-then-stands-clause-is : goal.group-returns-then-stands-clause-is
 group-returns-then-stands-clause-is t c =
     (λ lent row next f l e i.
-      let r = c.loop-i.invariant.2 lent row next f l e i in
-      let w = c.kind-walk in
-      let u = group_turned c.args.message.now lent (c.args.levels - 1) c.args.brace _ _ r _ _ i c.after_key-from.ensures w.ensures.is in
-      let d = turn_closed c.args.message.now lent (c.args.levels - 1) c.args.brace r (columns_sum _ _ _) _ u ((stands_there c.args.message.now c.kind-walk.result.next c.closing_mark-closing.result (sym c.stands.ensures ∙ c.if-stands.true)).1 ∙ c.closing_mark-closing.ensures) in
-      record { ended = sym d.0; onward = d.1.0; lowest = d.1.1 })
+    let r = c.loop-i.invariant.2 lent row next f l e i in
+    let w = c.kind-walk in
+    let u = group_turned c.args.message.now lent (c.args.levels - 1) c.args.brace _ _ r _ _ i c.after_key-from.ensures w.ensures.is in
+    let d = turn_closed c.args.message.now lent (c.args.levels - 1) c.args.brace r (columns_sum _ _ _) _ u ((stands_there c.args.message.now c.kind-walk.result.next c.closing_mark-closing.result (sym c.stands.ensures ∙ c.if-stands.true)).1 ∙ c.closing_mark-closing.ensures) in
+    record { ended = sym d.0; onward = d.1.0; lowest = d.1.1 })
 
 pub group-returns-then-next-i-clause-is : goal.group-returns-then-next-i-clause-is
 group-returns-then-next-i-clause-is t c =
     (λ lent row next f l e i.
-      let r = c.loop-i.invariant.2 lent row next f l e i in
-      let w = c.kind-walk in
-      let u = group_turned c.args.message.now lent (c.args.levels - 1) c.args.brace _ _ r _ _ i c.after_key-from.ensures w.ensures.is in
-      let d = turn_on c.args.message.now lent (c.args.levels - 1) c.args.brace r (columns_sum _ _ _) _ u in
-      absurd (omega arith))
+    let r = c.loop-i.invariant.2 lent row next f l e i in
+    let w = c.kind-walk in
+    let u = group_turned c.args.message.now lent (c.args.levels - 1) c.args.brace _ _ r _ _ i c.after_key-from.ensures w.ensures.is in
+    let d = turn_on c.args.message.now lent (c.args.levels - 1) c.args.brace r (columns_sum _ _ _) _ u in
+    absurd (omega arith))
 
 pub group-loop-i-preserved : goal.group-loop-i-preserved
-group-loop-i-preserved t c =
-    (
+group-loop-i-preserved t c = (
   c.kind-walk.ensures.bounds.near,
   (let p = c.kind-walk.ensures.bounds.low in let q = c.loop-i.invariant.1 in omega arith),
   (λ lent row next f l e i.
@@ -77,9 +75,9 @@ group-loop-i-preserved t c =
 pub group-returns-clause-is : goal.group-returns-clause-is
 group-returns-clause-is t c =
     (λ lent row next f l e i.
-      let r = c.loop-i.invariant.2 lent row next f l e i in
-      let h = inside c.args.message.now lent (c.args.levels - 1) c.args.brace r in
-      absurd (omega arith))
+    let r = c.loop-i.invariant.2 lent row next f l e i in
+    let h = inside c.args.message.now lent (c.args.levels - 1) c.args.brace r in
+    absurd (omega arith))
 
 pub kind-returns-then-mark-eq-ARRAY-clause-is : goal.kind-returns-then-mark-eq-ARRAY-clause-is
 kind-returns-then-mark-eq-ARRAY-clause-is t c =

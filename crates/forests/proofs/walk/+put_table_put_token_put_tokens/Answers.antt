@@ -67,9 +67,9 @@ put_table-returns-clause-puts t c =
     let mm = c.put_middle-middle.ensures.reach in let mf = middle_few (Row.row_of c.args.r) in
     let b2 = c.put_tokens-end.ensures.bounds in
     let tr = c.put_tail.ensures.reach in let tf = tail_few c.args.message.now c.requires.1.short (Row.row_of c.args.r) in λ x.
-          let y = token-table _ _ _ _ x c.requires.2 _ c.link-split.ensures in
-          rw (y.form c.args.message.now)
-          (puts_append _ _ (puts_append _ _ (puts_append _ _ (puts_append _ _ c.put_head-start.ensures (c.put_tokens-schema.ensures.puts y.schema)) c.put_middle-middle.ensures) (c.put_tokens-end.ensures.puts y.dimensions)) c.put_tail.ensures)
+    let y = token-table _ _ _ _ x c.requires.2 _ c.link-split.ensures in
+    rw (y.form c.args.message.now)
+    (puts_append _ _ (puts_append _ _ (puts_append _ _ (puts_append _ _ c.put_head-start.ensures (c.put_tokens-schema.ensures.puts y.schema)) c.put_middle-middle.ensures) (c.put_tokens-end.ensures.puts y.dimensions)) c.put_tail.ensures)
 
 pub put_table-returns-clause-bounds : goal.put_table-returns-clause-bounds
 put_table-returns-clause-bounds t c =
@@ -115,8 +115,8 @@ put_token-returns-clause-puts t c =
     let w = c.requires.1.low in let l = c.requires.0.ends in
     let b = c.put_tokens-end.ensures.bounds in
     let tr = c.put_tail.ensures.reach in let tf = tail_few c.args.message.now c.requires.1.short (Row.row_of c.args.r) in λ x.
-          let i = token_nested _ _ _ _ x (sym c.is_single.ensures ∙ c.if-is_single.false) (ne_eqb _ _ c.if-r-eq-TABLE.false) in
-          rw (i.form c.args.message.now) (puts_append _ _ (puts_append _ _ c.put_head-start.ensures (c.put_tokens-end.ensures.puts i.held)) c.put_tail.ensures)
+    let i = token_nested _ _ _ _ x (sym c.is_single.ensures ∙ c.if-is_single.false) (ne_eqb _ _ c.if-r-eq-TABLE.false) in
+    rw (i.form c.args.message.now) (puts_append _ _ (puts_append _ _ c.put_head-start.ensures (c.put_tokens-end.ensures.puts i.held)) c.put_tail.ensures)
 
 pub put_token-returns-clause-bounds : goal.put_token-returns-clause-bounds
 put_token-returns-clause-bounds t c =

@@ -25,14 +25,13 @@ group-returns-then-levels-eq0-clause-is t c =
 pub group-returns-then-message-at-clause-is : goal.group-returns-then-message-at-clause-is
 group-returns-then-message-at-clause-is t c =
     (λ lent row next f l e i.
-      let a = c.args in
-      let z = c.if-levels-eq0.false in
-      let q : a.levels ≡ suc (a.levels - 1) = omega arith in
-      let h = opened_there (opened _ _ _ (a.levels - 1) _ _ _ _ _ q e) in absurd (omega arith))
+    let a = c.args in
+    let z = c.if-levels-eq0.false in
+    let q : a.levels ≡ suc (a.levels - 1) = omega arith in
+    let h = opened_there (opened _ _ _ (a.levels - 1) _ _ _ _ _ q e) in absurd (omega arith))
 
 pub group-loop-i-init : goal.group-loop-i-init
-group-loop-i-init t c =
-    (
+group-loop-i-init t c = (
   c.requires,
   omega arith,
   (λ lent row next f l e i.
@@ -49,22 +48,21 @@ group-overflow_add-after t c =
 pub group-returns-then-stands-clause-is : goal.group-returns-then-stands-clause-is
 group-returns-then-stands-clause-is t c =
     (λ lent row next f l e i.
-      let r = c.loop-i.invariant.2 lent row next f l e i in
-      let w = c.kind-walk in
-      let d = group_closed c.args.brace r i _ c.after_key-from.ensures w.result w.ensures.is ((stands_there c.args.message.now c.kind-walk.result.next c.closing_mark-closing.result (sym c.stands.ensures ∙ c.if-stands.true)).1 ∙ c.closing_mark-closing.ensures) in
-      record { ended = sym d.0; onward = d.1.0; sought = d.1.1 })
+    let r = c.loop-i.invariant.2 lent row next f l e i in
+    let w = c.kind-walk in
+    let d = group_closed c.args.brace r i _ c.after_key-from.ensures w.result w.ensures.is ((stands_there c.args.message.now c.kind-walk.result.next c.closing_mark-closing.result (sym c.stands.ensures ∙ c.if-stands.true)).1 ∙ c.closing_mark-closing.ensures) in
+    record { ended = sym d.0; onward = d.1.0; sought = d.1.1 })
 
 pub group-returns-then-next-i-clause-is : goal.group-returns-then-next-i-clause-is
 group-returns-then-next-i-clause-is t c =
     (λ lent row next f l e i.
-      let r = c.loop-i.invariant.2 lent row next f l e i in
-      let w = c.kind-walk in
-      let d = group_on c.args.brace r i _ c.after_key-from.ensures w.result w.ensures.is in
-      absurd (omega arith))
+    let r = c.loop-i.invariant.2 lent row next f l e i in
+    let w = c.kind-walk in
+    let d = group_on c.args.brace r i _ c.after_key-from.ensures w.result w.ensures.is in
+    absurd (omega arith))
 
 pub group-loop-i-preserved : goal.group-loop-i-preserved
-group-loop-i-preserved t c =
-    (
+group-loop-i-preserved t c = (
   record { within = c.kind-walk.ensures.bounds.within; near = c.kind-walk.ensures.bounds.near },
   (let p = c.loop-i.invariant.1 in let q = c.kind-walk.ensures.bounds.on in omega arith),
   (λ lent row next f l e i.
@@ -76,9 +74,9 @@ group-loop-i-preserved t c =
 pub group-returns-clause-is : goal.group-returns-clause-is
 group-returns-clause-is t c =
     (λ lent row next f l e i.
-      let r = c.loop-i.invariant.2 lent row next f l e i in
-      let h = inside _ _ _ c.args.brace r in
-      absurd (omega arith))
+    let r = c.loop-i.invariant.2 lent row next f l e i in
+    let h = inside _ _ _ c.args.brace r in
+    absurd (omega arith))
 
 pub kind-returns-then-mark-eq-ARRAY-clause-is : goal.kind-returns-then-mark-eq-ARRAY-clause-is
 kind-returns-then-mark-eq-ARRAY-clause-is t c =

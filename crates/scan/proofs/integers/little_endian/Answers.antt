@@ -26,24 +26,24 @@ loop-k-init c =
 pub overflow_mul-n : goal.overflow_mul-n
 overflow_mul-n c =
     let more : c.loop-k.n * 256 + get_or c.args.message.now (c.args.at + (c.loop-k.k - 1)) 0
-      ≡ little (bytes c.args.message.now (c.args.at + (c.loop-k.k - 1)) (c.args.width - (c.loop-k.k - 1))) = let a = c.args in
-      rw c.loop-k.invariant.1 (one_lower a.message.now a.at c.loop-k.k a.width (omega arith) (omega arith) (omega arith)) in
+    ≡ little (bytes c.args.message.now (c.args.at + (c.loop-k.k - 1)) (c.args.width - (c.loop-k.k - 1))) = let a = c.args in
+    rw c.loop-k.invariant.1 (one_lower a.message.now a.at c.loop-k.k a.width (omega arith) (omega arith) (omega arith)) in
     let under : little (bytes c.args.message.now (c.args.at + (c.loop-k.k - 1)) (c.args.width - (c.loop-k.k - 1))) < 2 ^ 64 = fits_64 _ _ _ (λ i. (c.shared_slice_known-1.given i).fits) (omega arith) in
     omega (arith, more, under)
 
 pub overflow_add-n : goal.overflow_add-n
 overflow_add-n c =
     let more : c.loop-k.n * 256 + get_or c.args.message.now (c.args.at + (c.loop-k.k - 1)) 0
-      ≡ little (bytes c.args.message.now (c.args.at + (c.loop-k.k - 1)) (c.args.width - (c.loop-k.k - 1))) = let a = c.args in
-      rw c.loop-k.invariant.1 (one_lower a.message.now a.at c.loop-k.k a.width (omega arith) (omega arith) (omega arith)) in
+    ≡ little (bytes c.args.message.now (c.args.at + (c.loop-k.k - 1)) (c.args.width - (c.loop-k.k - 1))) = let a = c.args in
+    rw c.loop-k.invariant.1 (one_lower a.message.now a.at c.loop-k.k a.width (omega arith) (omega arith) (omega arith)) in
     let under : little (bytes c.args.message.now (c.args.at + (c.loop-k.k - 1)) (c.args.width - (c.loop-k.k - 1))) < 2 ^ 64 = fits_64 _ _ _ (λ i. (c.shared_slice_known-1.given i).fits) (omega arith) in
     omega (arith, more, under)
 
 pub loop-k-preserved : goal.loop-k-preserved
 loop-k-preserved c =
     let more : c.loop-k.n * 256 + get_or c.args.message.now (c.args.at + (c.loop-k.k - 1)) 0
-      ≡ little (bytes c.args.message.now (c.args.at + (c.loop-k.k - 1)) (c.args.width - (c.loop-k.k - 1))) = let a = c.args in
-      rw c.loop-k.invariant.1 (one_lower a.message.now a.at c.loop-k.k a.width (omega arith) (omega arith) (omega arith)) in
+    ≡ little (bytes c.args.message.now (c.args.at + (c.loop-k.k - 1)) (c.args.width - (c.loop-k.k - 1))) = let a = c.args in
+    rw c.loop-k.invariant.1 (one_lower a.message.now a.at c.loop-k.k a.width (omega arith) (omega arith) (omega arith)) in
     (omega arith, more)
 
 pub returns : goal.returns

@@ -2,7 +2,7 @@
 use mathlib.Core.Path.{ap, ◌∙◌}
 use native.Mathlib.Omega.{arith}
 use borrow.Author.Rules.{rules}
-use Rattle.format.specs.Conditions.{if◌then◌else◌}
+use Rattle.format.specs.Conditions.{when◌then◌else◌}
 use Rattle.format.specs.Tokens.{is_kind}
 use Rattle.format.specs.Values.{value_in_packed}
 use Rattle.values.specs.Due.{due}
@@ -10,6 +10,6 @@ use Rattle.slots.specs.Scalars.{scalar_in}
 use Rattle.slots.proofs.value.value_in_packed.Goals as goal
 
 pub returns-clause-is : goal.returns-clause-is
-unfolding value_in_packed scalar_in due is_kind if◌then◌else◌
+unfolding value_in_packed scalar_in due is_kind when◌then◌else◌
 returns-clause-is c =
     c.scalar_in.ensures.is ∙ ap (scalar_in _ _) c.packed-slot.ensures

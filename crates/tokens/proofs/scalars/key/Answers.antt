@@ -3,7 +3,7 @@ use Prim.Native.Nat.{◌+◌, ◌≤◌, ◌<◌}
 use mathlib.Core.Path.{sym, ◌∙◌, ap}
 use native.Mathlib.Omega.{arith}
 use borrow.Author.Rules.{rules}
-use Rattle.format.specs.Conditions.{if◌then◌else◌}
+use Rattle.format.specs.Conditions.{when◌then◌else◌}
 use Rattle.format.specs.Tokens.{is_kind, members}
 use borrow.Author.Tests.{not-true, not-false}
 use Rattle.scan.specs.Numbers.{parsed}
@@ -12,27 +12,27 @@ use Rattle.tokens.proofs.Laying.{ended_is, within_from}
 use Rattle.tokens.proofs.scalars.key.Goals as goal
 
 pub returns-then-end-at-clause-meets : goal.returns-then-end-at-clause-meets
-unfolding members is_kind if◌then◌else◌
+unfolding members is_kind when◌then◌else◌
 returns-then-end-at-clause-meets c =
     key_early _ _ _ _ c.if-end-at.true
 
 pub returns-then-not-is_integer-clause-meets : goal.returns-then-not-is_integer-clause-meets
-unfolding members is_kind if◌then◌else◌
+unfolding members is_kind when◌then◌else◌
 returns-then-not-is_integer-clause-meets c =
     key_other _ _ _ _ c.if-end-at.false (rw (← c.is_integer.ensures) c.if-not-is_integer.true)
 
 pub returns-then-lent-row-clause-meets : goal.returns-then-lent-row-clause-meets
-unfolding members is_kind if◌then◌else◌
+unfolding members is_kind when◌then◌else◌
 returns-then-lent-row-clause-meets c =
     key_no_row _ _ _ _ c.if-end-at.false (rw (← c.is_integer.ensures) c.if-not-is_integer.false) c.if-lent-row.true
 
 pub returns-in-Refused-clause-meets : goal.returns-in-Refused-clause-meets
-unfolding members is_kind if◌then◌else◌
+unfolding members is_kind when◌then◌else◌
 returns-in-Refused-clause-meets c =
     let e = c.in-Refused.is in key_length _ _ _ _ c.if-end-at.false (rw (← c.is_integer.ensures) c.if-not-is_integer.false) _ _ c.if-lent-row.false (sym c.number.ensures.is ∙ ap parsed e)
 
 pub returns-in-Number-clause-meets : goal.returns-in-Number-clause-meets
-unfolding members is_kind if◌then◌else◌
+unfolding members is_kind when◌then◌else◌
 returns-in-Number-clause-meets c =
     let i = c.number in
     let e = c.in-Number.is in

@@ -5,7 +5,7 @@ use native.Mathlib.Omega.{arith}
 use borrow.Author.Rules.{rules}
 use lib.ListN.{length}
 use native.Mathlib.Nat.{mul-le-mul}
-use Rattle.format.specs.Conditions.{if◌then◌else◌}
+use Rattle.format.specs.Conditions.{when◌then◌else◌}
 use Rattle.format.specs.Limits.{limit}
 use Rattle.format.specs.Marks.{width}
 use Rattle.format.specs.Tokens.{is_kind, members}
@@ -52,7 +52,7 @@ returns-3 c =
     (packed-fault _ _ _ _ _ _ _ _ (rw c.before.n.given.1 at c.before.before.before.before.before.shape.ensures.0), tt)
 
 returns-4 : tie.Need-returns-4
-unfolding stored members is_kind if◌then◌else◌
+unfolding stored members is_kind when◌then◌else◌
 returns-4 c =
     let t = rw (c.before.before.before.before.before.before.before.before.before.next.given.1, c.before.before.before.before.before.before.before.before.before.before.before.before.before.before.before.held_by.ensures.0) at c.before.before.before.before.before.before.before.before.before.before.before.before.before.shape.ensures.0 in
     let w = rw c.before.before.before.before.before.before.before.before.before.next.given.1 at c.before.before.before.before.before.before.before.before.before.before.before.before.before.shape.ensures.1 in

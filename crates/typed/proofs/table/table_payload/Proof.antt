@@ -5,7 +5,7 @@ use native.Mathlib.Omega.{arith}
 use borrow.Author.Rules.{rules}
 use lib.ListN.{length}
 use native.Mathlib.Nat.{mul-le-mul}
-use Rattle.format.specs.Conditions.{if◌then◌else◌}
+use Rattle.format.specs.Conditions.{when◌then◌else◌}
 use Rattle.format.specs.Limits.{limit, record_limit}
 use Rattle.format.specs.Tokens.{is_kind, members, ◌⊕◌}
 use Rattle.format.specs.Records.{total_width, placed}
@@ -42,7 +42,7 @@ store-row-requires c κs =
     record { first = omega arith; inside = omega arith; count = omega arith; linked = omega arith }
 
 returns-4 : tie.Need-returns-4
-unfolding stored members is_kind if◌then◌else◌
+unfolding stored members is_kind when◌then◌else◌
 returns-4 c =
     let z = c.before.before.store-row in
     let q = c.before.before.before.before.before.table-contents.ensures in

@@ -4,7 +4,7 @@ use mathlib.Core.Path.{◌≡◌, refl}
 use mathlib.Core.Bool.{false}
 use mathlib.Core.List.{List, [], ◌∷◌}
 use borrow.Author.Rules.{rules}
-use Rattle.format.specs.Conditions.{if◌then◌else◌}
+use Rattle.format.specs.Conditions.{when◌then◌else◌}
 use Rattle.format.specs.Tokens.{leaf, is_kind}
 use Rattle.format.specs.Answers.{kind_of}
 use Rattle.format.specs.declared.answers.Kind.{Kind}
@@ -29,11 +29,11 @@ no_leaf Dimension o = refl
 no_leaf Extension o = refl
 
 pub returns-in-Leaf : goal.returns-in-Leaf
-unfolding Due.due is_kind if◌then◌else◌
+unfolding Due.due is_kind when◌then◌else◌
 returns-in-Leaf c =
     rw c.in-Leaf.is c.leaf_width.ensures
 
 pub returns-in_default : goal.returns-in_default
-unfolding Due.due is_kind if◌then◌else◌
+unfolding Due.due is_kind when◌then◌else◌
 returns-in_default c =
     rw (no_leaf c.args.kind c.in_default.not-Leaf) c.width.ensures
