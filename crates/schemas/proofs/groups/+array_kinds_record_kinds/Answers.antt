@@ -14,70 +14,129 @@ use Rattle.kinds.proofs.Cases.{kind_early, field_early}
 use Rattle.schemas.proofs.Loop.{Before, After, loop_start, loop_fault, loop_read, loop_on, loop_end, Member, member_ended, member_array, member_record}
 use Rattle.schemas.proofs.groups.+array_kinds_record_kinds.Goals as goal
 
--- HELPER
-abbrev array-kinds-Inv : array-kinds-lts.invariant-loop
-array-kinds-Inv message rows₀ lent levels at row offset ancestry children here₀ next₀ end₀ count₀ rows here next end count =
-    Before message lent fixed_array bracket (kind_at message lent levels) at row offset (ancestry_of children) rows₀ here next end count rows × (length rows ≡ length rows₀)
+use Rattle.schemas.proofs.groups.+array_kinds_record_kinds.Goals.{array_kinds-in-Ended, array_kinds-in-Array, array_kinds-in-Record}
+use Rattle.schemas.proofs.groups.+array_kinds_record_kinds.Goals.{record_kinds-in-Ended, record_kinds-in-Array, record_kinds-in-Record}
 
--- HELPER
-abbrev array-kinds-μ : array-kinds-lts.decreases-loop
-array-kinds-μ message rows₀ lent levels at row offset ancestry children here₀ next₀ end₀ count₀ rows here next end count = length message - here
+pub array_kinds-loop-k-init : goal.array_kinds-loop-k-init
+unfolding closes opens is_kind
+array_kinds-loop-k-init t c =
+    (loop_start _ _ _ _ _ _ _ _ _ _ (omega arith) (omega arith) (omega arith) (omega arith), refl)
 
--- HELPER
--- a member, whatever it is
-array-kinds-member : (t : ℕ) (c : array-kinds-lts.At-match-branch (array-kinds-calls t) (array-kinds-at t) array-kinds.Post array-kinds-Inv array-kinds-μ)
-    → Member c.before.before.before.before.before.before.before.before.before.args.message.now c.before.before.before.before.before.before.before.before.before.args.lent (kind_at c.before.before.before.before.before.before.before.before.before.args.message.now c.before.before.before.before.before.before.before.before.before.args.lent c.before.before.before.before.before.before.before.before.before.args.levels) c.before.before.before.before.before.loop.here c.before.before.before.before.before.loop.next c.before.before.before.before.before.loop.end (ancestry_of c.before.before.before.before.before.before.held_by.result) c.before.before.before.before.before.loop.rows c.match.rows c.match.kind
-array-kinds-member t c =
-    let s = c.before.before.before.kind-start in
-    ⊎_elim
-    (λ w. rw (w.3, w.4) (member_ended _ _ _ _ _ _ _ _ _ _ _ s.result w.1.given.1 s.auto.1.0 s.ensures.0 s.ensures.1))
-    (⊎_elim
-    (λ w. rw (w.7, w.8) (member_array _ _ _ _ _ _ _ _ _ _ _ _ _ _ s.result w.1.given.1 (w.4.kept.1.0 ∙ s.auto.1.0) s.ensures.0 s.ensures.1 w.4.ensures.0 w.4.ensures.1))
-    (λ w. rw (w.7, w.8) (member_record _ _ _ _ _ _ _ _ _ _ _ _ _ _ s.result w.1.given.1 (w.4.kept.1.0 ∙ s.auto.1.0) s.ensures.0 s.ensures.1 w.4.ensures.0 w.4.ensures.1)))
-    c.match.branch
+pub array_kinds-returns-in-Fault-clause-meets : goal.array_kinds-returns-in-Fault-clause-meets
+unfolding closes opens is_kind
+array_kinds-returns-in-Fault-clause-meets t c =
+    let s = c.kind_start in
+    let member : Member c.args.message.now c.args.lent (kind_at c.args.message.now c.args.lent c.args.levels) c.loop-k.here c.loop-k.next c.loop-k.end (ancestry_of c.held_by-children.result) c.loop-k.rows c.match-kind_start.rows c.match-kind_start.kind = elim c.match-kind_start.branch [
+      array_kinds-in-Ended w ↦ rw (w.rows-is, w.kind-is) (member_ended _ _ _ _ _ _ _ _ _ _ _ s.result w.in-Ended.is s.auto.rows s.ensures.meets s.ensures.bounds)
+      | array_kinds-in-Array w ↦ rw (w.rows-is, w.kind-is) (member_array _ _ _ _ _ _ _ _ _ _ _ _ _ _ s.result w.in-Array.is (w.array_kinds-kind.auto.rows ∙ s.auto.rows) s.ensures.meets s.ensures.bounds w.array_kinds-kind.ensures.meets w.array_kinds-kind.ensures.bounds)
+      | array_kinds-in-Record w ↦ rw (w.rows-is, w.kind-is) (member_record _ _ _ _ _ _ _ _ _ _ _ _ _ _ s.result w.in-Record.is (w.record_kinds-kind.auto.rows ∙ s.auto.rows) s.ensures.meets s.ensures.bounds w.record_kinds-kind.ensures.meets w.record_kinds-kind.ensures.bounds)
+    ] in
+    let e = rw c.in-Fault.is at member.meets in loop_fault _ _ _ _ _ _ _ _ _ _ _ _ c.loop-k.invariant.0 e
 
--- HELPER
--- a member that was read
-array-kinds-read : (t : ℕ) (c : array-kinds-lts.After-known-told5 (array-kinds-calls t) (array-kinds-at t) array-kinds.Post array-kinds-Inv array-kinds-μ)
-    → After c.before.before.before.before.before.before.before.before.before.before.before.before.args.message.now c.before.before.before.before.before.before.before.before.before.before.before.before.args.lent fixed_array bracket (kind_at c.before.before.before.before.before.before.before.before.before.before.before.before.args.message.now c.before.before.before.before.before.before.before.before.before.before.before.before.args.lent c.before.before.before.before.before.before.before.before.before.before.before.before.args.levels) c.before.before.before.before.before.before.before.before.before.before.before.before.args.at c.before.before.before.before.before.before.before.before.before.before.before.before.args.row c.before.before.before.before.before.before.before.before.before.before.before.before.args.offset (ancestry_of c.before.before.before.before.before.before.before.before.before.held_by.result) c.before.before.before.before.before.before.before.before.before.before.before.before.args.rows.now c.before.kind2.given.0.0 c.before.kind2.given.0.1.0 c.before.kind2.given.0.1.1.0 (c.before.before.before.before.before.before.before.before.loop.count + 1) c.before.before.before.match.rows
-    × Ends (c.before.before.before.before.before.before.before.before.loop.here + 1) (length c.before.before.before.before.before.before.before.before.before.before.before.before.args.message.now) c.before.before.before.before.before.before.before.before.before.before.before.before.args.lent c.before.before.before.before.before.before.before.before.loop.end c.before.kind2.given.0.0 c.before.kind2.given.0.1.0 c.before.kind2.given.0.1.1.0
-array-kinds-read t c =
-    let j = array-kinds-member t c.before.before.before in
-    let e = c.before.kind2.given.1 in
-    let r = rw e at j.meets in
-    let b = rw e at j.bounds in
-    (loop_read _ _ _ _ _ _ _ _ _ _ _ _ _ _ c.before.before.before.before.before.before.before.before.loop.invariant.0 r b, b)
+pub array_kinds-returns-then-stands-clause-meets : goal.array_kinds-returns-then-stands-clause-meets
+unfolding closes opens is_kind
+array_kinds-returns-then-stands-clause-meets t c =
+    let s = c.kind_start in
+    let member : Member c.args.message.now c.args.lent (kind_at c.args.message.now c.args.lent c.args.levels) c.loop-k.here c.loop-k.next c.loop-k.end (ancestry_of c.held_by-children.result) c.loop-k.rows c.match-kind_start.rows c.match-kind_start.kind = elim c.match-kind_start.branch [
+      array_kinds-in-Ended w ↦ rw (w.rows-is, w.kind-is) (member_ended _ _ _ _ _ _ _ _ _ _ _ s.result w.in-Ended.is s.auto.rows s.ensures.meets s.ensures.bounds)
+      | array_kinds-in-Array w ↦ rw (w.rows-is, w.kind-is) (member_array _ _ _ _ _ _ _ _ _ _ _ _ _ _ s.result w.in-Array.is (w.array_kinds-kind.auto.rows ∙ s.auto.rows) s.ensures.meets s.ensures.bounds w.array_kinds-kind.ensures.meets w.array_kinds-kind.ensures.bounds)
+      | array_kinds-in-Record w ↦ rw (w.rows-is, w.kind-is) (member_record _ _ _ _ _ _ _ _ _ _ _ _ _ _ s.result w.in-Record.is (w.record_kinds-kind.auto.rows ∙ s.auto.rows) s.ensures.meets s.ensures.bounds w.record_kinds-kind.ensures.meets w.record_kinds-kind.ensures.bounds)
+    ] in
+    let r = rw c.in-Next.is at member.meets in
+    let b = rw c.in-Next.is at member.bounds in
+    let after = loop_read _ _ _ _ _ _ _ _ _ _ _ _ _ _ c.loop-k.invariant.0 r b in
+    let e = sym c.stands.ensures ∙ c.if-stands.true in
+    loop_end _ _ _ _ _ _ _ _ _ _ after e refl _ c.held_by-children.ensures.is _ c.put_group.ensures
 
--- HELPER
-abbrev record-kinds-Inv : record-kinds-lts.invariant-loop
-record-kinds-Inv message rows₀ lent levels at row offset ancestry children here₀ next₀ end₀ count₀ rows here next end count =
-    Before message lent schema_record brace (field_at message lent levels) at row offset (ancestry_of children) rows₀ here next end count rows × (length rows ≡ length rows₀)
+pub array_kinds-returns-then-stands-clause-bounds : goal.array_kinds-returns-then-stands-clause-bounds
+unfolding closes opens is_kind
+array_kinds-returns-then-stands-clause-bounds t c =
+    let s = c.kind_start in
+    let member : Member c.args.message.now c.args.lent (kind_at c.args.message.now c.args.lent c.args.levels) c.loop-k.here c.loop-k.next c.loop-k.end (ancestry_of c.held_by-children.result) c.loop-k.rows c.match-kind_start.rows c.match-kind_start.kind = elim c.match-kind_start.branch [
+      array_kinds-in-Ended w ↦ rw (w.rows-is, w.kind-is) (member_ended _ _ _ _ _ _ _ _ _ _ _ s.result w.in-Ended.is s.auto.rows s.ensures.meets s.ensures.bounds)
+      | array_kinds-in-Array w ↦ rw (w.rows-is, w.kind-is) (member_array _ _ _ _ _ _ _ _ _ _ _ _ _ _ s.result w.in-Array.is (w.array_kinds-kind.auto.rows ∙ s.auto.rows) s.ensures.meets s.ensures.bounds w.array_kinds-kind.ensures.meets w.array_kinds-kind.ensures.bounds)
+      | array_kinds-in-Record w ↦ rw (w.rows-is, w.kind-is) (member_record _ _ _ _ _ _ _ _ _ _ _ _ _ _ s.result w.in-Record.is (w.record_kinds-kind.auto.rows ∙ s.auto.rows) s.ensures.meets s.ensures.bounds w.record_kinds-kind.ensures.meets w.record_kinds-kind.ensures.bounds)
+    ] in
+    let r = rw c.in-Next.is at member.meets in
+    let b = rw c.in-Next.is at member.bounds in
+    let after = loop_read _ _ _ _ _ _ _ _ _ _ _ _ _ _ c.loop-k.invariant.0 r b in
+    let p = after.bounds in
+    let e = sym c.stands.ensures ∙ c.if-stands.true in
+    let i = (stands_there _ _ _ e).0 in
+    omega arith
 
--- HELPER
-abbrev record-kinds-μ : record-kinds-lts.decreases-loop
-record-kinds-μ message rows₀ lent levels at row offset ancestry children here₀ next₀ end₀ count₀ rows here next end count = length message - here
+pub array_kinds-loop-k-preserved : goal.array_kinds-loop-k-preserved
+unfolding closes opens is_kind
+array_kinds-loop-k-preserved t c =
+    let s = c.kind_start in
+    let member : Member c.args.message.now c.args.lent (kind_at c.args.message.now c.args.lent c.args.levels) c.loop-k.here c.loop-k.next c.loop-k.end (ancestry_of c.held_by-children.result) c.loop-k.rows c.match-kind_start.rows c.match-kind_start.kind = elim c.match-kind_start.branch [
+      array_kinds-in-Ended w ↦ rw (w.rows-is, w.kind-is) (member_ended _ _ _ _ _ _ _ _ _ _ _ s.result w.in-Ended.is s.auto.rows s.ensures.meets s.ensures.bounds)
+      | array_kinds-in-Array w ↦ rw (w.rows-is, w.kind-is) (member_array _ _ _ _ _ _ _ _ _ _ _ _ _ _ s.result w.in-Array.is (w.array_kinds-kind.auto.rows ∙ s.auto.rows) s.ensures.meets s.ensures.bounds w.array_kinds-kind.ensures.meets w.array_kinds-kind.ensures.bounds)
+      | array_kinds-in-Record w ↦ rw (w.rows-is, w.kind-is) (member_record _ _ _ _ _ _ _ _ _ _ _ _ _ _ s.result w.in-Record.is (w.record_kinds-kind.auto.rows ∙ s.auto.rows) s.ensures.meets s.ensures.bounds w.record_kinds-kind.ensures.meets w.record_kinds-kind.ensures.bounds)
+    ] in
+    let r = rw c.in-Next.is at member.meets in
+    let b = rw c.in-Next.is at member.bounds in
+    let after = loop_read _ _ _ _ _ _ _ _ _ _ _ _ _ _ c.loop-k.invariant.0 r b in
+    (loop_on _ _ _ _ _ _ _ _ _ _ after (sym c.stands.ensures ∙ c.if-stands.false) (λ h. kind_early _ _ _ _ _ h), member.kept ∙ c.loop-k.invariant.1)
 
--- HELPER
--- a member, whatever it is
-record-kinds-member : (t : ℕ) (c : record-kinds-lts.At-match-branch (record-kinds-calls t) (record-kinds-at t) record-kinds.Post record-kinds-Inv record-kinds-μ)
-    → Member c.before.before.before.before.before.before.before.before.before.args.message.now c.before.before.before.before.before.before.before.before.before.args.lent (field_at c.before.before.before.before.before.before.before.before.before.args.message.now c.before.before.before.before.before.before.before.before.before.args.lent c.before.before.before.before.before.before.before.before.before.args.levels) c.before.before.before.before.before.loop.here c.before.before.before.before.before.loop.next c.before.before.before.before.before.loop.end (ancestry_of c.before.before.before.before.before.before.held_by.result) c.before.before.before.before.before.loop.rows c.match.rows c.match.kind
-record-kinds-member t c =
-    let s = c.before.before.before.field-start in
-    ⊎_elim
-    (λ w. rw (w.3, w.4) (member_ended _ _ _ _ _ _ _ _ _ _ _ s.result w.1.given.1 s.auto.1.0 s.ensures.0 s.ensures.1))
-    (⊎_elim
-    (λ w. rw (w.7, w.8) (member_array _ _ _ _ _ _ _ _ _ _ _ _ _ _ s.result w.1.given.1 (w.4.kept.1.0 ∙ s.auto.1.0) s.ensures.0 s.ensures.1 w.4.ensures.0 w.4.ensures.1))
-    (λ w. rw (w.7, w.8) (member_record _ _ _ _ _ _ _ _ _ _ _ _ _ _ s.result w.1.given.1 (w.4.kept.1.0 ∙ s.auto.1.0) s.ensures.0 s.ensures.1 w.4.ensures.0 w.4.ensures.1)))
-    c.match.branch
+pub record_kinds-loop-k-init : goal.record_kinds-loop-k-init
+unfolding closes opens is_kind
+record_kinds-loop-k-init t c =
+    (loop_start _ _ _ _ _ _ _ _ _ _ (omega arith) (omega arith) (omega arith) (omega arith), refl)
 
--- HELPER
--- a member that was read
-record-kinds-read : (t : ℕ) (c : record-kinds-lts.After-known-told5 (record-kinds-calls t) (record-kinds-at t) record-kinds.Post record-kinds-Inv record-kinds-μ)
-    → After c.before.before.before.before.before.before.before.before.before.before.before.before.args.message.now c.before.before.before.before.before.before.before.before.before.before.before.before.args.lent schema_record brace (field_at c.before.before.before.before.before.before.before.before.before.before.before.before.args.message.now c.before.before.before.before.before.before.before.before.before.before.before.before.args.lent c.before.before.before.before.before.before.before.before.before.before.before.before.args.levels) c.before.before.before.before.before.before.before.before.before.before.before.before.args.at c.before.before.before.before.before.before.before.before.before.before.before.before.args.row c.before.before.before.before.before.before.before.before.before.before.before.before.args.offset (ancestry_of c.before.before.before.before.before.before.before.before.before.held_by.result) c.before.before.before.before.before.before.before.before.before.before.before.before.args.rows.now c.before.kind2.given.0.0 c.before.kind2.given.0.1.0 c.before.kind2.given.0.1.1.0 (c.before.before.before.before.before.before.before.before.loop.count + 1) c.before.before.before.match.rows
-    × Ends (c.before.before.before.before.before.before.before.before.loop.here + 1) (length c.before.before.before.before.before.before.before.before.before.before.before.before.args.message.now) c.before.before.before.before.before.before.before.before.before.before.before.before.args.lent c.before.before.before.before.before.before.before.before.loop.end c.before.kind2.given.0.0 c.before.kind2.given.0.1.0 c.before.kind2.given.0.1.1.0
-record-kinds-read t c =
-    let j = record-kinds-member t c.before.before.before in
-    let e = c.before.kind2.given.1 in
-    let r = rw e at j.meets in
-    let b = rw e at j.bounds in
-    (loop_read _ _ _ _ _ _ _ _ _ _ _ _ _ _ c.before.before.before.before.before.before.before.before.loop.invariant.0 r b, b)
+pub record_kinds-returns-in-Fault-clause-meets : goal.record_kinds-returns-in-Fault-clause-meets
+unfolding closes opens is_kind
+record_kinds-returns-in-Fault-clause-meets t c =
+    let s = c.field_start in
+    let member : Member c.args.message.now c.args.lent (field_at c.args.message.now c.args.lent c.args.levels) c.loop-k.here c.loop-k.next c.loop-k.end (ancestry_of c.held_by-children.result) c.loop-k.rows c.match-field_start.rows c.match-field_start.kind = elim c.match-field_start.branch [
+      record_kinds-in-Ended w ↦ rw (w.rows-is, w.kind-is) (member_ended _ _ _ _ _ _ _ _ _ _ _ s.result w.in-Ended.is s.auto.rows s.ensures.meets s.ensures.bounds)
+      | record_kinds-in-Array w ↦ rw (w.rows-is, w.kind-is) (member_array _ _ _ _ _ _ _ _ _ _ _ _ _ _ s.result w.in-Array.is (w.array_kinds-kind.auto.rows ∙ s.auto.rows) s.ensures.meets s.ensures.bounds w.array_kinds-kind.ensures.meets w.array_kinds-kind.ensures.bounds)
+      | record_kinds-in-Record w ↦ rw (w.rows-is, w.kind-is) (member_record _ _ _ _ _ _ _ _ _ _ _ _ _ _ s.result w.in-Record.is (w.record_kinds-kind.auto.rows ∙ s.auto.rows) s.ensures.meets s.ensures.bounds w.record_kinds-kind.ensures.meets w.record_kinds-kind.ensures.bounds)
+    ] in
+    let e = rw c.in-Fault.is at member.meets in loop_fault _ _ _ _ _ _ _ _ _ _ _ _ c.loop-k.invariant.0 e
+
+pub record_kinds-returns-then-stands-clause-meets : goal.record_kinds-returns-then-stands-clause-meets
+unfolding closes opens is_kind
+record_kinds-returns-then-stands-clause-meets t c =
+    let s = c.field_start in
+    let member : Member c.args.message.now c.args.lent (field_at c.args.message.now c.args.lent c.args.levels) c.loop-k.here c.loop-k.next c.loop-k.end (ancestry_of c.held_by-children.result) c.loop-k.rows c.match-field_start.rows c.match-field_start.kind = elim c.match-field_start.branch [
+      record_kinds-in-Ended w ↦ rw (w.rows-is, w.kind-is) (member_ended _ _ _ _ _ _ _ _ _ _ _ s.result w.in-Ended.is s.auto.rows s.ensures.meets s.ensures.bounds)
+      | record_kinds-in-Array w ↦ rw (w.rows-is, w.kind-is) (member_array _ _ _ _ _ _ _ _ _ _ _ _ _ _ s.result w.in-Array.is (w.array_kinds-kind.auto.rows ∙ s.auto.rows) s.ensures.meets s.ensures.bounds w.array_kinds-kind.ensures.meets w.array_kinds-kind.ensures.bounds)
+      | record_kinds-in-Record w ↦ rw (w.rows-is, w.kind-is) (member_record _ _ _ _ _ _ _ _ _ _ _ _ _ _ s.result w.in-Record.is (w.record_kinds-kind.auto.rows ∙ s.auto.rows) s.ensures.meets s.ensures.bounds w.record_kinds-kind.ensures.meets w.record_kinds-kind.ensures.bounds)
+    ] in
+    let r = rw c.in-Next.is at member.meets in
+    let b = rw c.in-Next.is at member.bounds in
+    let after = loop_read _ _ _ _ _ _ _ _ _ _ _ _ _ _ c.loop-k.invariant.0 r b in
+    let e = sym c.stands.ensures ∙ c.if-stands.true in
+    loop_end _ _ _ _ _ _ _ _ _ _ after e refl _ c.held_by-children.ensures.is _ c.put_group.ensures
+
+pub record_kinds-returns-then-stands-clause-bounds : goal.record_kinds-returns-then-stands-clause-bounds
+unfolding closes opens is_kind
+record_kinds-returns-then-stands-clause-bounds t c =
+    let s = c.field_start in
+    let member : Member c.args.message.now c.args.lent (field_at c.args.message.now c.args.lent c.args.levels) c.loop-k.here c.loop-k.next c.loop-k.end (ancestry_of c.held_by-children.result) c.loop-k.rows c.match-field_start.rows c.match-field_start.kind = elim c.match-field_start.branch [
+      record_kinds-in-Ended w ↦ rw (w.rows-is, w.kind-is) (member_ended _ _ _ _ _ _ _ _ _ _ _ s.result w.in-Ended.is s.auto.rows s.ensures.meets s.ensures.bounds)
+      | record_kinds-in-Array w ↦ rw (w.rows-is, w.kind-is) (member_array _ _ _ _ _ _ _ _ _ _ _ _ _ _ s.result w.in-Array.is (w.array_kinds-kind.auto.rows ∙ s.auto.rows) s.ensures.meets s.ensures.bounds w.array_kinds-kind.ensures.meets w.array_kinds-kind.ensures.bounds)
+      | record_kinds-in-Record w ↦ rw (w.rows-is, w.kind-is) (member_record _ _ _ _ _ _ _ _ _ _ _ _ _ _ s.result w.in-Record.is (w.record_kinds-kind.auto.rows ∙ s.auto.rows) s.ensures.meets s.ensures.bounds w.record_kinds-kind.ensures.meets w.record_kinds-kind.ensures.bounds)
+    ] in
+    let r = rw c.in-Next.is at member.meets in
+    let b = rw c.in-Next.is at member.bounds in
+    let after = loop_read _ _ _ _ _ _ _ _ _ _ _ _ _ _ c.loop-k.invariant.0 r b in
+    let p = after.bounds in
+    let e = sym c.stands.ensures ∙ c.if-stands.true in
+    let i = (stands_there _ _ _ e).0 in
+    omega arith
+
+pub record_kinds-loop-k-preserved : goal.record_kinds-loop-k-preserved
+unfolding closes opens is_kind
+record_kinds-loop-k-preserved t c =
+    let s = c.field_start in
+    let member : Member c.args.message.now c.args.lent (field_at c.args.message.now c.args.lent c.args.levels) c.loop-k.here c.loop-k.next c.loop-k.end (ancestry_of c.held_by-children.result) c.loop-k.rows c.match-field_start.rows c.match-field_start.kind = elim c.match-field_start.branch [
+      record_kinds-in-Ended w ↦ rw (w.rows-is, w.kind-is) (member_ended _ _ _ _ _ _ _ _ _ _ _ s.result w.in-Ended.is s.auto.rows s.ensures.meets s.ensures.bounds)
+      | record_kinds-in-Array w ↦ rw (w.rows-is, w.kind-is) (member_array _ _ _ _ _ _ _ _ _ _ _ _ _ _ s.result w.in-Array.is (w.array_kinds-kind.auto.rows ∙ s.auto.rows) s.ensures.meets s.ensures.bounds w.array_kinds-kind.ensures.meets w.array_kinds-kind.ensures.bounds)
+      | record_kinds-in-Record w ↦ rw (w.rows-is, w.kind-is) (member_record _ _ _ _ _ _ _ _ _ _ _ _ _ _ s.result w.in-Record.is (w.record_kinds-kind.auto.rows ∙ s.auto.rows) s.ensures.meets s.ensures.bounds w.record_kinds-kind.ensures.meets w.record_kinds-kind.ensures.bounds)
+    ] in
+    let r = rw c.in-Next.is at member.meets in
+    let b = rw c.in-Next.is at member.bounds in
+    let after = loop_read _ _ _ _ _ _ _ _ _ _ _ _ _ _ c.loop-k.invariant.0 r b in
+    (loop_on _ _ _ _ _ _ _ _ _ _ after (sym c.stands.ensures ∙ c.if-stands.false) (λ h. field_early _ _ _ _ _ h), member.kept ∙ c.loop-k.invariant.1)

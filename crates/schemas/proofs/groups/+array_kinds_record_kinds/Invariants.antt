@@ -19,3 +19,15 @@ decreases-array_kinds l = l.levels
 
 abbrev pub decreases-record_kinds : goal.decreases-record_kinds
 decreases-record_kinds l = l.levels
+
+abbrev pub invariant-array_kinds-loop-k : goal.invariant-array_kinds-loop-k
+invariant-array_kinds-loop-k l = Before l.message l.lent fixed_array bracket (kind_at l.message l.lent l.levels) l.at l.row l.offset (ancestry_of l.children) l.initial.rows l.here l.next l.end l.count l.rows × (length l.rows ≡ length l.initial.rows)
+
+abbrev pub decreases-array_kinds-loop-k : goal.decreases-array_kinds-loop-k
+decreases-array_kinds-loop-k l = length l.message - l.here
+
+abbrev pub invariant-record_kinds-loop-k : goal.invariant-record_kinds-loop-k
+invariant-record_kinds-loop-k l = Before l.message l.lent schema_record brace (field_at l.message l.lent l.levels) l.at l.row l.offset (ancestry_of l.children) l.initial.rows l.here l.next l.end l.count l.rows × (length l.rows ≡ length l.initial.rows)
+
+abbrev pub decreases-record_kinds-loop-k : goal.decreases-record_kinds-loop-k
+decreases-record_kinds-loop-k l = length l.message - l.here
