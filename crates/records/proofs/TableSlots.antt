@@ -110,6 +110,8 @@ module _ {m : List ℕ} {lent : ℕ} {o : Opening} {at row : ℕ} {token : Token
             wide = width_placed 0 below ∙ sym w ∙ sym (member_width_lem t k) ∙ omega (arith, ap total_width e);
             sought = λ leaf. fields_placed 0 below 0 (Left leaf) 0 0 ∙ ap (λ (s : Forest). in_fields (below_first s) 0 (Left leaf) 0 0) e;
           }
+      go none e g = elim g [ ]
+      go (node t below (node _ _ _)) e g = elim g [ ]
 
   rows_are : leaf_rows (table_of row token under) ≡ map (λ (s : Slot ℕ). s.leaf_row) (leaves (member_row row) fields.fielded 0 0)
   unfolding leaf_rows
