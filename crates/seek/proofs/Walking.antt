@@ -24,13 +24,13 @@ use Rattle.seek.proofs.Picking.{tables_append, tables-length, pick_first, pick_p
 use Rattle.seek.proofs.Tableless.{Tableless, empty, no_tables}
 use Rattle.seek.proofs.Back.{Both}
 
--- an answer at which a walk ends, by its place in the enum
+-- an answer at which a walk ends
 abbrev pub Ended : Sought → Type 0
-Ended s = OneOf (0 ∷ 2 ∷ []) (tag_of the_type s)
+Ended s = (next row left : ℕ) → s ≡ Past next row left → ⊥
 
 pub ended_within : (s : Sought) → Ended s → (low high : ℕ) → SoughtWithin s low high
 ended_within Refused z low high = tt
-ended_within (Past next row left) z low high = absurd (miss (0 ∷ 2 ∷ []) 1 tt z)
+ended_within (Past next row left) z low high = absurd (z _ _ _ refl)
 ended_within (Table brace first row) z low high = tt
 
 -- what ends from a place on ends from every place before it on
@@ -120,6 +120,6 @@ module _ {first number : ℕ} {f : Forest} {end : ℕ} {remains : Parsed Forest}
     -- the walk ends in the next
     pub ahead_stop : (s : Sought) → Ended s → Comes s m row left b.first b.next → (next : ℕ) → Comes s m first number f next
     ahead_stop Refused z c next = absurd c
-    ahead_stop (Past next' row' left') z c next = absurd (miss (0 ∷ 2 ∷ []) 1 tt z)
+    ahead_stop (Past next' row' left') z c next = absurd (z _ _ _ refl)
     ahead_stop (Table brace place row') z c next =
         rw a.whole (found_later m first number left a.before a.rest a.fewer (rw (← a.took, b.whole) (found_first m row left b.first b.rest c)))

@@ -1,0 +1,41 @@
+-- The cycle of `container`, `member`, `counted` and `plain`: each call has a level less, or is nearer to where a level is taken. Assumes nothing.
+use Prim.Native.Nat.{ℕ, ◌+◌, ◌*◌, ◌-◌, ◌<◌}
+use native.Mathlib.Omega.{arith}
+use native.Mathlib.Nat.{add-zero}
+use lib.ListN.{length}
+use borrow.Author.Rules.{rules}
+use Rattle.format.specs.Grammars.{new}
+use Rattle.format.specs.Marks.{opening_of, closes}
+use Rattle.format.specs.Bytes.{skip}
+use Rattle.format.specs.Sequences.{spaced}
+use Rattle.items.specs.Headers.{member_of}
+use Rattle.containers.proofs.Loops.{Going}
+use Rattle.seek.proofs.Back.{no_fault}
+use Rattle.seek.proofs.Walking.{ended_within, within_from}
+use Rattle.seek.proofs.Loops.{Some, some_start, some_step, some_stop, some_end, Until, until_start, until_early, until_end, until_stop, until_step}
+use Rattle.seek.proofs.Members.{closed_walks, member_past, member_opens}
+use Rattle.seek.proofs.nest.+container_counted_member_plain.Given as goal
+
+abbrev pub decreases-container : goal.decreases-container
+decreases-container l = 3 * l.levels
+
+abbrev pub decreases-counted : goal.decreases-counted
+decreases-counted l = 3 * l.levels + 2
+
+abbrev pub decreases-member : goal.decreases-member
+decreases-member l = 3 * l.levels + 1
+
+abbrev pub decreases-plain : goal.decreases-plain
+decreases-plain l = 3 * l.levels + 2
+
+abbrev pub invariant-counted-loop-count : goal.invariant-counted-loop-count
+invariant-counted-loop-count l = Going l.message (length l.message) l.start l.at l.row 0 × Some l.message l.n (spaced l.message (member_of l.message (length l.message) new l.levels (opening_of l.brace))) l.start l.first l.number l.at l.row l.left l.count
+
+abbrev pub decreases-counted-loop-count : goal.decreases-counted-loop-count
+decreases-counted-loop-count l = l.n - l.count
+
+abbrev pub invariant-plain-loop-levels : goal.invariant-plain-loop-levels
+invariant-plain-loop-levels l = Going l.message (length l.message) l.start l.at l.row 0 × Until l.message (skip l.message) (closes (opening_of l.brace)) (member_of l.message (length l.message) new l.levels (opening_of l.brace)) l.start l.first l.number l.at l.row l.left
+
+abbrev pub decreases-plain-loop-levels : goal.decreases-plain-loop-levels
+decreases-plain-loop-levels l = length l.message - l.at
