@@ -1,14 +1,8 @@
 -- `column`: the values before the one reached are right. Assumes nothing.
-use Prim.Native.Nat.{ℕ, ◌+◌, ◌-◌, ◌*◌, ◌≤◌}
-use mathlib.Core.Path.{◌≡◌, refl, sym, ◌∙◌}
-use mathlib.Core.List.{List}
+use Prim.Native.Nat.{◌+◌, ◌-◌, ◌*◌}
+use mathlib.Core.Path.{◌≡◌, sym, ◌∙◌}
 use native.Mathlib.Omega.{arith}
-use lib.ListN.{length}
-use borrow.Author.Rules.{rules}
-use borrow.Author.Tests.{not-true, not-false}
-use Rattle.columns.specs.Least.{in_column, Fits}
 use Rattle.columns.proofs.Down.{last_here, last_next, column_stop, column_wrong, column_right, column_end}
-use Rattle.columns.proofs.column.Invariants.{Left}
 use Rattle.columns.proofs.column.Goals as goal
 
 pub returns-then-best-here-clause-is : goal.returns-then-best-here-clause-is

@@ -1,13 +1,9 @@
 -- `column`: the values before the one reached are right. Assumes nothing.
-use Prim.Native.Nat.{ℕ, ◌+◌, ◌-◌, ◌*◌, ◌≤◌}
-use mathlib.Core.Path.{◌≡◌, refl, sym, ◌∙◌}
+use Prim.Native.Nat.{ℕ, ◌+◌, ◌*◌, ◌≤◌}
+use mathlib.Core.Path.{◌≡◌}
 use mathlib.Core.List.{List}
-use native.Mathlib.Omega.{arith}
 use lib.ListN.{length}
-use borrow.Author.Rules.{rules}
-use borrow.Author.Tests.{not-true, not-false}
 use Rattle.columns.specs.Least.{in_column, Fits}
-use Rattle.columns.proofs.Down.{last_here, last_next, column_stop, column_wrong, column_right, column_end}
 use Rattle.columns.proofs.column.Given as goal
 
 -- what is left lies inside the message, and is as wrong as the whole

@@ -1,6 +1,4 @@
 -- `is_checked`: by the mark. Assumes nothing.
-use mathlib.Core.Path.{sym}
-use mathlib.Core.Bool.{false≢true}
 use Rattle.columns.proofs.Down.{unchecked}
 use Rattle.columns.proofs.is_checked.Goals as goal
 

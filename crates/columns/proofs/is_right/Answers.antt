@@ -1,7 +1,5 @@
 -- `is_right`: the bytes, where they are all there. Assumes nothing.
 use mathlib.Core.Path.{ap, ◌∙◌}
-use native.Mathlib.Omega.{arith}
-use borrow.Author.Rules.{rules}
 use Rattle.format.specs.Content.{is_content}
 use Rattle.format.proofs.Parts.{part_is}
 use Rattle.columns.proofs.is_right.Goals as goal

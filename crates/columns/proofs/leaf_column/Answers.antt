@@ -1,7 +1,4 @@
 -- `leaf_column`: no bytes, bytes that can't be wrong, or a column. Assumes nothing.
-use native.Mathlib.Omega.{arith}
-use borrow.Author.Rules.{rules}
-use borrow.Author.Tests.{not-true}
 use Rattle.columns.proofs.Down.{column_empty, column_skipped}
 use Rattle.columns.proofs.leaf_column.Goals as goal
 

@@ -1,6 +1,4 @@
 -- `leaf_over`: a leaf's width fits, and its column is looked at. Assumes nothing.
-use native.Mathlib.Omega.{arith}
-use borrow.Author.Rules.{rules}
 use Rattle.columns.proofs.Leaves.{leaf_over_lem}
 use Rattle.columns.proofs.leaf_over.Goals as goal
 

@@ -1,12 +1,6 @@
 -- `are_booleans`: each byte before the one reached is a boolean. Assumes nothing.
-use Prim.Native.Nat.{◌-◌, ◌≤◌}
-use mathlib.Core.Path.{◌≡◌, refl, sym, ◌∙◌}
+use mathlib.Core.Path.{sym, ◌∙◌}
 use native.Mathlib.Omega.{arith}
-use lib.ListN.{length, drop}
-use borrow.Author.Rules.{rules}
-use borrow.Author.Tests.{not-true, not-false}
-use Rattle.format.specs.Conditions.{all}
-use Rattle.format.specs.Marks.{is_boolean}
 use Rattle.content.proofs.All.{all_on, all_off, all_end}
 use Rattle.content.proofs.are_booleans.Goals as goal
 

@@ -1,13 +1,9 @@
 -- `are_booleans`: each byte before the one reached is a boolean. Assumes nothing.
 use Prim.Native.Nat.{◌-◌, ◌≤◌}
-use mathlib.Core.Path.{◌≡◌, refl, sym, ◌∙◌}
-use native.Mathlib.Omega.{arith}
+use mathlib.Core.Path.{◌≡◌}
 use lib.ListN.{length, drop}
-use borrow.Author.Rules.{rules}
-use borrow.Author.Tests.{not-true, not-false}
 use Rattle.format.specs.Conditions.{all}
 use Rattle.format.specs.Marks.{is_boolean}
-use Rattle.content.proofs.All.{all_on, all_off, all_end}
 use Rattle.content.proofs.are_booleans.Given as goal
 
 abbrev pub invariant-loop-i : goal.invariant-loop-i

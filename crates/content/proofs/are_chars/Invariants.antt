@@ -1,12 +1,10 @@
 -- `are_chars`: each byte before the one reached is a char, if `chars` says so. Assumes nothing.
 use Prim.Native.Nat.{◌-◌, ◌≤◌}
-use mathlib.Core.Path.{◌≡◌, refl, sym, ◌∙◌}
-use mathlib.Core.Bool.{◌&&◌, and-true, and_assoc}
-use native.Mathlib.Omega.{arith}
+use mathlib.Core.Path.{◌≡◌}
+use mathlib.Core.Bool.{◌&&◌}
 use lib.ListN.{length, drop}
 use lib.Dec.{leb}
 use Rattle.format.specs.Conditions.{all}
-use Rattle.content.proofs.All.{all_cons, all_end}
 use Rattle.content.proofs.are_chars.Given as goal
 
 abbrev pub invariant-loop-i : goal.invariant-loop-i

@@ -1,5 +1,4 @@
 -- `is_content`: by the mark. Assumes nothing.
-use borrow.Author.Rules.{rules}
 use borrow.Author.Tests.{ne_eqb}
 use Rattle.format.specs.Conditions.{when◌then◌else◌}
 use Rattle.format.specs.Content.{is_content}

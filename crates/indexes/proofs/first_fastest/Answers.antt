@@ -1,11 +1,6 @@
 -- `first_fastest`: the number of the indexes from the one reached on. Assumes nothing.
-use Prim.Native.Nat.{◌-◌, ◌≤◌}
-use mathlib.Core.Path.{◌≡◌}
+use Prim.Native.Nat.{◌-◌}
 use native.Mathlib.Omega.{arith}
-use borrow.Author.Rules.{rules}
-use lib.ListN.{length, drop}
-use Rattle.format.specs.Indexes.{first_number}
-use Rattle.indexes.specs.Sums.{capped}
 use Rattle.indexes.proofs.Numbers.{range_length, range_at, first_end, first_on}
 use Rattle.indexes.proofs.first_fastest.Goals as goal
 

@@ -1,10 +1,6 @@
 -- `in_range`: each index before the one reached is below its extent. Assumes nothing.
-use Prim.Native.Nat.{◌-◌, ◌≤◌}
-use mathlib.Core.Path.{◌≡◌, refl, sym, ◌∙◌}
+use mathlib.Core.Path.{sym, ◌∙◌}
 use native.Mathlib.Omega.{arith}
-use borrow.Author.Rules.{rules}
-use lib.ListN.{length, drop}
-use Rattle.format.specs.Indexes.{in_range}
 use Rattle.indexes.proofs.Numbers.{lengths_differ, range_on, range_off, range_end}
 use Rattle.indexes.proofs.in_range.Goals as goal
 

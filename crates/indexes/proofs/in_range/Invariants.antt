@@ -1,11 +1,8 @@
 -- `in_range`: each index before the one reached is below its extent. Assumes nothing.
 use Prim.Native.Nat.{◌-◌, ◌≤◌}
-use mathlib.Core.Path.{◌≡◌, refl, sym, ◌∙◌}
-use native.Mathlib.Omega.{arith}
-use borrow.Author.Rules.{rules}
+use mathlib.Core.Path.{◌≡◌}
 use lib.ListN.{length, drop}
 use Rattle.format.specs.Indexes.{in_range}
-use Rattle.indexes.proofs.Numbers.{lengths_differ, range_on, range_off, range_end}
 use Rattle.indexes.proofs.in_range.Given as goal
 
 abbrev pub invariant-loop-k : goal.invariant-loop-k

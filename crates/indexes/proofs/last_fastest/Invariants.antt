@@ -1,9 +1,7 @@
 -- `last_fastest`: the number of the indexes before the one reached. Assumes nothing.
 use Prim.Native.Nat.{◌-◌, ◌≤◌}
-use native.Mathlib.Omega.{arith}
-use borrow.Author.Rules.{rules}
 use lib.ListN.{length}
-use Rattle.indexes.proofs.Numbers.{range_length, range_at, Counted, counted_start, counted_on, counted_end}
+use Rattle.indexes.proofs.Numbers.{Counted}
 use Rattle.indexes.proofs.last_fastest.Given as goal
 
 abbrev pub invariant-loop-k : goal.invariant-loop-k

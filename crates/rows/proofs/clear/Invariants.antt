@@ -1,8 +1,7 @@
 -- `clear`: a loop over the words. Assumes nothing.
 use Prim.Native.Nat.{◌-◌}
-use native.Mathlib.Omega.{arith}
 use lib.ListN.{length}
-use Rattle.rows.proofs.Cleared.{Cleared, none, one_more, all}
+use Rattle.rows.proofs.Cleared.{Cleared}
 use Rattle.rows.proofs.clear.Given as goal
 
 abbrev pub invariant-loop-i : goal.invariant-loop-i

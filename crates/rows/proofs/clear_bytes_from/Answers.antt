@@ -1,5 +1,4 @@
 -- `clear_bytes_from`: the part from there on is cleared. Assumes nothing.
-use borrow.Author.Rules.{rules}
 use Rattle.rows.proofs.Clearing.{cleared_past, cleared_part}
 use Rattle.rows.proofs.clear_bytes_from.Goals as goal
 

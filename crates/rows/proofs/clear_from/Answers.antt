@@ -1,6 +1,4 @@
 -- `clear_from`: the part from there on is cleared. Assumes nothing.
-use native.Mathlib.Omega.{arith}
-use borrow.Author.Rules.{rules}
 use Rattle.rows.proofs.Clearing.{cleared_past, cleared_part}
 use Rattle.rows.proofs.clear_from.Goals as goal
 

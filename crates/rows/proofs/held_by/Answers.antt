@@ -1,7 +1,5 @@
 -- `held_by`: the row after, and one deeper. Assumes nothing.
 use mathlib.Core.Path.{refl}
-use native.Mathlib.Omega.{arith}
-use borrow.Author.Rules.{rules}
 use Rattle.format.specs.Rows.{held_by}
 use Rattle.rows.proofs.held_by.Goals as goal
 

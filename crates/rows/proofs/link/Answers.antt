@@ -1,5 +1,4 @@
 -- `link`: word 6. Assumes nothing.
-use borrow.Author.Rules.{rules}
 use Rattle.format.specs.Rows.{row_at}
 use Rattle.rows.proofs.link.Goals as goal
 

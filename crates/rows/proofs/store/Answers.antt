@@ -3,9 +3,6 @@ use Prim.Native.Nat.{ℕ, suc, ◌+◌}
 use mathlib.Core.Path.{◌≡◌, ap, ◌∙◌}
 use native.Mathlib.Nat.{add-suc}
 use native.Mathlib.Numerals.{add_eight, unary_clauses}
-use native.Mathlib.Omega.{arith}
-use lib.ListN.{length-set}
-use borrow.Author.Rules.{rules}
 use borrow.Author.Tests.{lt-ltb, le-ltb}
 use Rattle.format.specs.Conditions.{when◌then◌else◌}
 use Rattle.format.specs.Rows as Rows

@@ -1,5 +1,4 @@
 -- `after_letter`: a sign, or a digit. Assumes nothing.
-use borrow.Author.Rules.{rules}
 use borrow.Author.Tests.{eq-eqb, ne_eqb}
 use Rattle.format.specs.Conditions.{when◌then◌else◌}
 use Rattle.format.specs.JsonNumber as Json

@@ -1,5 +1,5 @@
 -- `is_number`: the bytes passed lead to the stage reached. Assumes nothing.
-use Prim.Native.Nat.{◌-◌, ◌≤◌, ◌<◌}
+use Prim.Native.Nat.{◌≤◌, ◌<◌}
 use mathlib.Core.Path.{◌≡◌, refl, sym, ◌∙◌}
 use native.Mathlib.Omega.{arith}
 use lib.ListN.{length, drop}
@@ -8,9 +8,7 @@ use lib.ListN.{get_or, drop_of_length-le}
 use lib.Seq.{drop-cons}
 use mathlib.Core.List.{List}
 use Prim.Native.Nat.{ℕ, ◌+◌}
-use borrow.Author.Rules.{rules}
 use Rattle.format.specs.JsonNumber as Json
-use Rattle.content.specs.Stages.{stage_of}
 use Rattle.content.proofs.json.is_number.Goals as goal
 
 module _ (stage : Json.Stage) (s : List ℕ) (i : ℕ) where

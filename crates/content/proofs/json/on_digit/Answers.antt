@@ -1,5 +1,4 @@
 -- `on_digit`: by `is_digit`. Assumes nothing.
-use borrow.Author.Rules.{rules}
 use Rattle.format.specs.Conditions.{when◌then◌else◌}
 use Rattle.content.proofs.json.on_digit.Goals as goal
 

@@ -1,5 +1,4 @@
 -- `step`: by the stage. Assumes nothing.
-use borrow.Author.Rules.{rules}
 use Rattle.format.specs.JsonNumber as Json
 use Rattle.content.proofs.json.step.Goals as goal
 

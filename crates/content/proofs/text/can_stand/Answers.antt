@@ -1,5 +1,4 @@
 -- `can_stand`: as it is defined. Assumes nothing.
-use borrow.Author.Rules.{rules}
 use Rattle.format.specs.Conditions.{between}
 use Rattle.content.specs.Owed.{can_stand}
 use Rattle.content.proofs.text.can_stand.Goals as goal

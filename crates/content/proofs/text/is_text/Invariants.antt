@@ -1,12 +1,10 @@
 -- `is_text`: each byte before the one reached can stand there, if `stand` says so, and what is left has the shape that is owed. Assumes nothing.
 use Prim.Native.Nat.{◌-◌, ◌≤◌}
-use mathlib.Core.Path.{◌≡◌, sym, ◌∙◌}
-use mathlib.Core.Bool.{◌&&◌, and_assoc}
-use native.Mathlib.Omega.{arith}
+use mathlib.Core.Path.{◌≡◌}
+use mathlib.Core.Bool.{◌&&◌}
 use lib.ListN.{length, drop}
-use borrow.Author.Rules.{rules}
 use Rattle.format.specs.Text.{shaped, is_text}
-use Rattle.content.proofs.Shape.{owed, chars_shaped, shaped_start, shaped_on, shaped_end}
+use Rattle.content.proofs.Shape.{owed}
 use Rattle.content.proofs.text.is_text.Given as goal
 
 abbrev pub invariant-loop-i : goal.invariant-loop-i

@@ -1,5 +1,4 @@
 -- `stands`: a byte there, and this one. Assumes nothing.
-use borrow.Author.Rules.{rules}
 use borrow.Author.Tests.{lt-ltb, le-ltb}
 use Rattle.scan.specs.Stands.{stands}
 use Rattle.scan.proofs.bytes.stands.Goals as goal

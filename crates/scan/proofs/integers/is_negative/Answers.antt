@@ -3,8 +3,6 @@ use Prim.Native.Nat.{ℕ, ◌<◌}
 use mathlib.Core.Path.{◌≡◌}
 use mathlib.Core.Bool.{true}
 use native.Mathlib.Omega.{arith}
-use borrow.Author.Rules.{rules}
-use borrow.Author.Tests.{not-true, not-false}
 use Rattle.format.specs.Marks.{is_signed, width}
 use Rattle.format.proofs.MarkFacts.{integer_wide, signed_integer}
 use Rattle.scan.proofs.Digits.{unsigned, signed}

@@ -1,10 +1,7 @@
 -- `little_endian`: from the highest byte down; what is read is the number of the bytes from the one reached on. Assumes nothing.
-use Prim.Native.Nat.{◌+◌, ◌-◌, ◌*◌, ◌^◌, ◌≤◌, ◌<◌}
-use mathlib.Core.Path.{◌≡◌, ◌∙◌}
-use native.Mathlib.Omega.{arith}
-use lib.ListN.{get_or}
+use Prim.Native.Nat.{◌+◌, ◌-◌, ◌≤◌}
+use mathlib.Core.Path.{◌≡◌}
 use Rattle.format.specs.Bytes.{little, bytes}
-use Rattle.scan.proofs.Digits.{none_read, one_lower, all_read, fits_64, too_wide, not_there, all_there}
 use Rattle.scan.proofs.integers.little_endian.Given as goal
 
 abbrev pub invariant-loop-k : goal.invariant-loop-k

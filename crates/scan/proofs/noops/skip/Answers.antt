@@ -1,9 +1,6 @@
 -- `skip`: what is skipped from the place reached is what is skipped from the start. Assumes nothing.
-use Prim.Native.Nat.{◌-◌, ◌≤◌, max}
-use mathlib.Core.Path.{◌≡◌, refl, sym, ◌∙◌}
+use mathlib.Core.Path.{sym, ◌∙◌}
 use native.Mathlib.Omega.{arith}
-use lib.ListN.{length}
-use Rattle.format.specs.Bytes as Bytes
 use Rattle.format.proofs.Noops.{skip_noop, skip_here, skip_end}
 use Rattle.scan.proofs.noops.skip.Goals as goal
 

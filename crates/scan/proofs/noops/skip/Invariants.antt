@@ -1,10 +1,8 @@
 -- `skip`: what is skipped from the place reached is what is skipped from the start. Assumes nothing.
 use Prim.Native.Nat.{◌-◌, ◌≤◌, max}
-use mathlib.Core.Path.{◌≡◌, refl, sym, ◌∙◌}
-use native.Mathlib.Omega.{arith}
+use mathlib.Core.Path.{◌≡◌}
 use lib.ListN.{length}
 use Rattle.format.specs.Bytes as Bytes
-use Rattle.format.proofs.Noops.{skip_noop, skip_here, skip_end}
 use Rattle.scan.proofs.noops.skip.Given as goal
 
 abbrev pub invariant-loop-i : goal.invariant-loop-i

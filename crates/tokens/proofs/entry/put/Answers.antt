@@ -1,5 +1,4 @@
 -- `put`: the row that the struct stands for is stored. Assumes nothing.
-use borrow.Author.Rules.{rules}
 use Rattle.format.specs.Rows.{row_of}
 use Rattle.tokens.proofs.entry.put.Goals as goal
 

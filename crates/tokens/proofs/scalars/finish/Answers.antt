@@ -1,7 +1,4 @@
 -- `finish`: by the place after the payload. Assumes nothing.
-use mathlib.Core.Path.{refl}
-use native.Mathlib.Omega.{arith}
-use borrow.Author.Rules.{rules}
 use Rattle.tokens.proofs.Laying.{laid_alone}
 use Rattle.tokens.proofs.scalars.finish.Goals as goal
 

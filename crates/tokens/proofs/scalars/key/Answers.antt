@@ -2,13 +2,11 @@
 use Prim.Native.Nat.{◌+◌, ◌≤◌, ◌<◌}
 use mathlib.Core.Path.{sym, ◌∙◌, ap}
 use native.Mathlib.Omega.{arith}
-use borrow.Author.Rules.{rules}
 use Rattle.format.specs.Conditions.{when◌then◌else◌}
 use Rattle.format.specs.Tokens.{is_kind, members}
-use borrow.Author.Tests.{not-true, not-false}
 use Rattle.scan.specs.Numbers.{parsed}
 use Rattle.tokens.proofs.Cases.{key_early, key_other, key_no_row, key_length, key_there}
-use Rattle.tokens.proofs.Laying.{ended_is, within_from}
+use Rattle.tokens.proofs.Laying.{ended_is}
 use Rattle.tokens.proofs.scalars.key.Goals as goal
 
 pub returns-then-end-at-clause-meets : goal.returns-then-end-at-clause-meets

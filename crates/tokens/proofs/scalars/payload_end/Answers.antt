@@ -1,8 +1,6 @@
 -- `payload_end`: the message's end, then the content. Assumes nothing.
 use mathlib.Core.Path.{sym, ◌∙◌, ap}
 use native.Mathlib.Omega.{arith}
-use borrow.Author.Rules.{rules}
-use borrow.Author.Tests.{not-true, not-false}
 use Rattle.format.specs.Content.{is_content}
 use Rattle.format.proofs.Parts.{part_is}
 use Rattle.tokens.proofs.Cases.{payload_early, payload_wrong, payload_done}

@@ -1,6 +1,5 @@
 -- `scalar`: a row must be left, then the payload. Assumes nothing.
 use native.Mathlib.Omega.{arith}
-use borrow.Author.Rules.{rules}
 use Rattle.format.specs.Conditions.{when◌then◌else◌}
 use Rattle.format.specs.Tokens.{is_kind, members}
 use Rattle.format.proofs.MarkFacts.{width_few}

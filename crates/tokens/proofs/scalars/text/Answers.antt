@@ -2,11 +2,10 @@
 use Prim.Native.Nat.{◌+◌, ◌≤◌, ◌<◌}
 use mathlib.Core.Path.{sym, ◌∙◌, ap}
 use native.Mathlib.Omega.{arith}
-use borrow.Author.Rules.{rules}
 use Rattle.format.specs.Tokens.{members}
 use Rattle.scan.specs.Numbers.{parsed}
 use Rattle.tokens.proofs.Cases.{text_no_row, text_length, text_there_lem}
-use Rattle.tokens.proofs.Laying.{ended_is, within_from}
+use Rattle.tokens.proofs.Laying.{ended_is}
 use Rattle.tokens.proofs.scalars.text.Goals as goal
 
 pub returns-then-lent-row-clause-meets : goal.returns-then-lent-row-clause-meets

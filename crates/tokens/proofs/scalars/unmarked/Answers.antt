@@ -1,6 +1,4 @@
 -- `unmarked`: a byte must stand there, then the scalar. Assumes nothing.
-use native.Mathlib.Omega.{arith}
-use borrow.Author.Rules.{rules}
 use Rattle.tokens.proofs.Cases.{unmarked_early, unmarked_there}
 use Rattle.tokens.proofs.scalars.unmarked.Goals as goal
 
