@@ -1,0 +1,19 @@
+-- `rewrite`: read, written in one walk, and settled. Assumes nothing.
+use native.Mathlib.Omega.{arith}
+use borrow.Author.Rules.{rules}
+use Rattle.rewriter.proofs.Rewrites.{accepts, held_read, room_read, refused, settled}
+use Rattle.rewriter.proofs.message.rewrite.Goals as goal
+
+pub put_tokens-end-requires : goal.put_tokens-end-requires
+put_tokens-end-requires c =
+    let a = accepts _ _ (rw c.in-Done.is at c.read.ensures.answer) in (held_read _ _ _ _ _ c.read.ensures.words a, room_read _ _ _ _ a)
+
+pub returns-in-Refused : goal.returns-in-Refused
+returns-in-Refused c =
+    let l = refused _ _ _ _ _ _ _ _ (rw c.in-Refused.is at c.read.ensures.answer) c.clear_bytes.ensures c.read.ensures.words in
+    record { answer = l.answers; output = l.output_is; words = l.words_are }
+
+pub returns-in-Done : goal.returns-in-Done
+returns-in-Done c =
+    let l = settled _ _ _ _ _ _ _ _ (accepts _ _ (rw c.in-Done.is at c.read.ensures.answer)) c.read.ensures.words (omega arith) c.put_tokens-end.ensures.puts c.settle.ensures in
+    record { answer = l.answers; output = l.output_is; words = l.words_are }
