@@ -1,7 +1,5 @@
 -- `extension`: a row must be left, then what stands before the payload, and the payload. Assumes nothing.
 use mathlib.Core.Path.{sym, ◌∙◌, ap}
-use native.Mathlib.Omega.{arith}
-use borrow.Author.Rules.{rules}
 use Rattle.format.specs.Conditions.{when◌then◌else◌}
 use Rattle.format.specs.Outcome.{◌>>=◌}
 use Rattle.format.specs.Tokens.{is_kind, members}

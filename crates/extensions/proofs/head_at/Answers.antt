@@ -1,7 +1,5 @@
 -- `head_at`: the id, the length, and the size that the id asks for. Assumes nothing.
 use mathlib.Core.Path.{sym, ◌∙◌, ap}
-use native.Mathlib.Omega.{arith}
-use borrow.Author.Rules.{rules}
 use borrow.Author.Tests.{eq-eqb, ne_eqb}
 use Rattle.format.specs.Extensions.{may_have}
 use Rattle.scan.specs.Numbers.{parsed}

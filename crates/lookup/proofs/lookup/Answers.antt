@@ -1,8 +1,6 @@
 -- `lookup`: the container on the way, then its members. Assumes nothing.
 use mathlib.Core.Path.{◌≡◌, sym, ◌∙◌}
 use native.Mathlib.Omega.{arith}
-use borrow.Author.Rules.{rules}
-use native.Mathlib.Nat.{le_of_eq}
 use Rattle.format.specs.Outcome.{done}
 use Rattle.format.specs.Rows.{rows_in}
 use Rattle.format.specs.Addresses.{along}

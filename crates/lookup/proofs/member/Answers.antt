@@ -1,8 +1,6 @@
 -- `member`: the key on the way, its bytes, then its member. Assumes nothing.
 use mathlib.Core.Path.{◌≡◌, sym, ◌∙◌}
 use native.Mathlib.Omega.{arith}
-use borrow.Author.Rules.{rules}
-use borrow.Author.Tests.{not-true, not-false}
 use Rattle.format.specs.Outcome.{done}
 use Rattle.format.specs.Rows.{row_at}
 use Rattle.format.specs.Addresses.{is_key, along}

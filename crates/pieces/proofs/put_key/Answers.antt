@@ -1,6 +1,5 @@
 -- `put_key`: the length, and then the bytes. Assumes nothing.
 use native.Mathlib.Omega.{arith}
-use borrow.Author.Rules.{rules}
 use Rattle.pieces.proofs.Putting.{puts_append, integer_few}
 use Rattle.pieces.proofs.put_key.Goals as goal
 

@@ -1,6 +1,4 @@
 -- `put_leaf`: by whether the mark is `S`. Assumes nothing.
-use mathlib.Core.Path.{◌∙◌}
-use native.Mathlib.Omega.{arith}
 use borrow.Author.Tests.{eq-eqb, ne_eqb}
 use Rattle.format.specs.Conditions.{when◌then◌else◌}
 use Rattle.pieces.proofs.Putting.{puts_append}

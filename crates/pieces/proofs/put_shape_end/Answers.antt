@@ -1,5 +1,4 @@
 -- `put_shape_end`: by the order. Assumes nothing.
-use borrow.Author.Rules.{rules}
 use borrow.Author.Tests.{ne_eqb}
 use Rattle.format.specs.Conditions.{when◌then◌else◌}
 use Rattle.pieces.specs.Shapes.{shape_end}

@@ -1,6 +1,5 @@
 -- `table_at`: the limit, and the walk over the message's value. Assumes nothing.
 use native.Mathlib.Omega.{arith}
-use borrow.Author.Rules.{rules}
 use Rattle.seek.proofs.Message.{accepted, all_passed}
 use Rattle.seek.proofs.table_at.Goals as goal
 

@@ -1,6 +1,5 @@
 -- `unmarked`: case by case. Assumes nothing.
 use mathlib.Core.Path.{refl}
-use borrow.Author.Rules.{rules}
 use Rattle.format.specs.Answers.{first_and_width}
 use Rattle.addresses.proofs.calls.unmarked.Goals as goal
 

@@ -1,6 +1,5 @@
 -- `in_record`: by rows or by columns. Assumes nothing.
 use native.Mathlib.Omega.{arith}
-use borrow.Author.Rules.{rules}
 use Rattle.format.specs.Rows.{rows_in}
 use Rattle.addresses.proofs.SlotCases.{by_rows_at, by_columns_at}
 use Rattle.addresses.proofs.slots.in_record.Goals as goal

@@ -1,7 +1,6 @@
 -- `packed`: the packed row, the indexes, and the place. Assumes nothing.
 use mathlib.Core.Path.{sym, ap, ◌∙◌}
 use native.Mathlib.Omega.{arith}
-use borrow.Author.Rules.{rules}
 use Rattle.format.specs.Answers.{found}
 use Rattle.format.specs.Rows.{rows_in}
 use Rattle.format.proofs.MarkFacts.{width_few, letter_width}

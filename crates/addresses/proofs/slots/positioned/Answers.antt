@@ -1,9 +1,6 @@
 -- `positioned`: the extents, the range, and the number. Assumes nothing.
-use mathlib.Core.Path.{refl, sym, ◌∙◌}
-use borrow.Author.Rules.{rules}
-use borrow.Author.Tests.{not-true, not-false}
-use lib.Seq.{length-take-le}
-use Rattle.addresses.proofs.SlotCases.{position_refused, position_out, position_at}
+use mathlib.Core.Path.{sym, ◌∙◌}
+use Rattle.addresses.proofs.SlotCases.{position_refused, position_out}
 use Rattle.addresses.proofs.slots.positioned.Goals as goal
 
 pub returns-then-not-in_range : goal.returns-then-not-in_range

@@ -1,7 +1,6 @@
 -- `table`: the table row, its schema, the leaf, the indexes, and the place. Assumes nothing.
 use mathlib.Core.Path.{sym, ap, ◌∙◌}
 use native.Mathlib.Omega.{arith}
-use borrow.Author.Rules.{rules}
 use Rattle.format.specs.Answers.{found}
 use Rattle.format.specs.Rows.{rows_in}
 use Rattle.ways.proofs.Along.{followed}

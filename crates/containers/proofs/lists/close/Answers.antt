@@ -1,6 +1,4 @@
 -- `close`: the row over what is held. Assumes nothing.
-use native.Mathlib.Omega.{arith}
-use borrow.Author.Rules.{rules}
 use Rattle.containers.proofs.Closing.{laid_closed, closed-fault}
 use Rattle.containers.proofs.lists.close.Goals as goal
 

@@ -1,7 +1,4 @@
 -- `pair`: the key, then the value. Assumes nothing.
-use native.Mathlib.Omega.{arith}
-use borrow.Author.Rules.{rules}
-use Rattle.tokens.proofs.Laying.{within_from}
 use Rattle.tokens.proofs.Sofar.{seq_fault, seq_meets}
 use Rattle.containers.specs.Lists.{pair_of}
 use Rattle.containers.proofs.pairs.pair.Goals as goal

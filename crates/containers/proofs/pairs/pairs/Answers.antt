@@ -1,12 +1,7 @@
 -- `pairs`: a loop over the pairs. Assumes nothing.
-use Prim.Native.Nat.{◌-◌}
-use mathlib.Core.Path.{◌≡◌, refl, ◌∙◌}
+use mathlib.Core.Path.{refl, ◌∙◌}
 use native.Mathlib.Omega.{arith}
-use borrow.Author.Rules.{rules}
-use lib.ListN.{length}
-use Rattle.rows.specs.Row.{ancestry_of}
-use Rattle.containers.specs.Lists.{pair_of}
-use Rattle.containers.proofs.Loops.{Going, Some, some_start, some_step, some_fault, some_end}
+use Rattle.containers.proofs.Loops.{some_start, some_step, some_fault, some_end}
 use Rattle.containers.proofs.pairs.pairs.Goals as goal
 
 pub loop-count-init : goal.loop-count-init

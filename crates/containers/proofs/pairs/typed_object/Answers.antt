@@ -1,12 +1,11 @@
 -- `typed_object`: the count, then the pairs. Assumes nothing.
 use mathlib.Core.Path.{sym, ap, ◌∙◌}
 use native.Mathlib.Omega.{arith}
-use borrow.Author.Rules.{rules}
 use lib.ListN.{length}
 use native.Mathlib.Nat.{sub-zero}
 use Rattle.scan.specs.Numbers.{parsed}
 use Rattle.tokens.proofs.Laying.{within_from}
-use Rattle.containers.proofs.Closing.{list_cap, counted-fault, counted-closed}
+use Rattle.containers.proofs.Closing.{counted-fault, counted-closed}
 use Rattle.containers.proofs.pairs.typed_object.Goals as goal
 
 pub returns-in-Refused-clause-meets : goal.returns-in-Refused-clause-meets

@@ -1,19 +1,12 @@
 -- `by_columns`: the fields that are passed are taken in. Assumes nothing.
 use Prim.Native.Nat.{ℕ, ◌+◌, ◌-◌, ◌*◌, ◌≤◌}
-use mathlib.Core.Path.{sym, ◌∙◌}
-use mathlib.Core.Bool.{true}
-use native.Mathlib.Omega.{arith}
 use lib.ListN.{length}
-use borrow.Author.Rules.{rules}
-use Rattle.format.specs.Marks.{brace, closes}
+use Rattle.format.specs.Marks.{brace}
 use Rattle.format.specs.Tokens.{Forest, below_first}
 use Rattle.format.specs.Records.{total_width}
-use Rattle.scan.proofs.Stands.{stands_there, stands_other}
 use Rattle.columns.specs.Least.{farthest, nowhere, in_fields}
 use Rattle.contents.specs.Tables.{TableAt}
-use Rattle.contents.proofs.Members.{fields_sum}
-use Rattle.contents.proofs.Groups.{RestOf, opened_there, inside, turn_on, turn_closed, turn-next}
-use Rattle.contents.proofs.Verdicts.{fields_turned, table_opened, fields_start}
+use Rattle.contents.proofs.Groups.{RestOf}
 use Rattle.contents.proofs.layouts.by_columns.Given as goal
 
 abbrev pub invariant-loop-i : goal.invariant-loop-i

@@ -1,5 +1,4 @@
 -- `by_rows`: a walk over the whole schema, whose leaves have one stride. Assumes nothing.
-use borrow.Author.Rules.{rules}
 use Rattle.contents.proofs.Verdicts.{rows_lowest}
 use Rattle.contents.proofs.layouts.by_rows.Goals as goal
 

@@ -1,10 +1,5 @@
 -- `field`: a first walk gives its width, and so its values' place; a second looks at its leaves. Assumes nothing.
-use Prim.Native.Nat.{◌*◌}
-use mathlib.Core.Path.{ap}
-use native.Mathlib.Omega.{arith}
-use native.Mathlib.Nat.{mul-le-mul_left}
-use borrow.Author.Rules.{rules}
-use Rattle.contents.proofs.Verdicts.{field_first, field_taken, field_over}
+use Rattle.contents.proofs.Verdicts.{field_first, field_over}
 use Rattle.contents.proofs.layouts.field.Goals as goal
 
 pub returns-clause-is : goal.returns-clause-is

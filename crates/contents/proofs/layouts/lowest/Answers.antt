@@ -1,6 +1,5 @@
 -- `lowest`: by the opening. Assumes nothing.
 use mathlib.Core.Path.{sym, ◌∙◌}
-use borrow.Author.Rules.{rules}
 use Rattle.contents.proofs.Verdicts.{table_by_rows, table_by_columns}
 use Rattle.contents.proofs.layouts.lowest.Goals as goal
 

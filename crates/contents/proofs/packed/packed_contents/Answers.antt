@@ -1,9 +1,8 @@
 -- `packed_contents`: chars one by one, and anything else as it is. Assumes nothing.
-use Prim.Native.Nat.{ℕ, ◌+◌, ◌-◌, ◌≤◌}
+use Prim.Native.Nat.{◌-◌}
 use mathlib.Core.Path.{◌≡◌, sym, ap, ◌∙◌}
 use native.Mathlib.Omega.{arith}
 use native.Mathlib.Nat.{sub-zero}
-use lib.ListN.{length}
 use Rattle.format.specs.Marks.{'C'}
 use Rattle.contents.proofs.Elements.{from, from_none, from_all, from_any, char_on, char_off, chars_fit}
 use Rattle.contents.proofs.packed.packed_contents.Goals as goal

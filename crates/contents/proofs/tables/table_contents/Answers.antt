@@ -1,7 +1,5 @@
 -- `table_contents`: the least place of a wrong slot is the first one's. Assumes nothing.
 use mathlib.Core.Path.{sym, ◌∙◌, ap}
-use native.Mathlib.Omega.{arith}
-use borrow.Author.Rules.{rules}
 use Rattle.columns.proofs.Tiles.{verdict}
 use Rattle.contents.proofs.Verdicts.{table_verdict, verdict_wrong, verdict_right}
 use Rattle.contents.proofs.tables.table_contents.Goals as goal

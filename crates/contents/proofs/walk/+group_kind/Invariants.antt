@@ -1,19 +1,14 @@
 -- The walk over a schema: a kind, and the members of a schema or a fixed array. Assumes nothing.
-use Prim.Native.Nat.{ℕ, suc, ◌+◌, ◌-◌, ◌*◌, ◌≤◌, ◌<◌, min}
-use mathlib.Core.Path.{◌≡◌, sym, ◌∙◌}
-use native.Mathlib.Omega.{arith}
+use Prim.Native.Nat.{ℕ, ◌+◌, ◌-◌, ◌*◌, ◌≤◌, min}
+use mathlib.Core.Path.{◌≡◌}
 use lib.ListN.{length}
-use borrow.Author.Rules.{rules}
 use Rattle.format.specs.Outcome.{done}
 use Rattle.format.specs.Marks.{opening_of}
 use Rattle.format.specs.Tokens.{Forest}
 use Rattle.format.specs.Records.{total_width}
 use Rattle.format.specs.Schemas.{nested}
-use Rattle.scan.proofs.Stands.{stands_there, stands_other}
 use Rattle.columns.specs.Least.{farthest, in_columns, Fits}
-use Rattle.columns.proofs.Leaves.{kind_bracket, kind_brace}
-use Rattle.contents.proofs.Members.{columns_sum}
-use Rattle.contents.proofs.Groups.{kind_there, RestOf, opened, not_nested, opened_there, group_start, inside, group_turned, turn_on, turn_closed, turn-next}
+use Rattle.contents.proofs.Groups.{RestOf}
 use Rattle.contents.proofs.walk.+group_kind.Given as goal
 
 abbrev pub decreases-group : goal.decreases-group

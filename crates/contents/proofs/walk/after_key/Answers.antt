@@ -1,8 +1,6 @@
 -- `after_key`: past the bytes of the key. Assumes nothing.
 use mathlib.Core.Path.{sym, ◌∙◌, ap}
 use native.Mathlib.Omega.{arith}
-use borrow.Author.Rules.{rules}
-use borrow.Author.Tests.{not-true, not-false}
 use Rattle.scan.specs.Numbers.{parsed}
 use Rattle.columns.proofs.Inverse.{never, done_pair}
 use Rattle.contents.proofs.Groups.{after_none, after_read}

@@ -1,6 +1,4 @@
 -- `bare`: a byte must stand there, then the dimension. Assumes nothing.
-use native.Mathlib.Omega.{arith}
-use borrow.Author.Rules.{rules}
 use Rattle.dimensions.proofs.Cases.{bare_early, bare_there}
 use Rattle.dimensions.proofs.forms.bare.Goals as goal
 

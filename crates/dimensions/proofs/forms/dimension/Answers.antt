@@ -1,8 +1,5 @@
 -- `dimension`: a row must be left, then the number. Assumes nothing.
 use mathlib.Core.Path.{sym, ap, ◌∙◌}
-use native.Mathlib.Omega.{arith}
-use borrow.Author.Rules.{rules}
-use Rattle.format.proofs.MarkFacts.{width_few}
 use Rattle.scan.specs.Numbers.{parsed}
 use Rattle.dimensions.proofs.Cases.{dimension_no_row, dimension_wrong, dimension_there}
 use Rattle.dimensions.proofs.Going.{laid_one}

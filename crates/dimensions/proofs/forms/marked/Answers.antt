@@ -1,12 +1,8 @@
 -- `marked`: the mark of an integer, and the dimension under it. Assumes nothing.
 use mathlib.Core.Bool.{true}
 use mathlib.Core.Path.{◌≡◌}
-use native.Mathlib.Omega.{arith}
-use borrow.Author.Rules.{rules}
-use borrow.Author.Tests.{not-true, not-false}
 use lib.ListN.{get_or}
 use Rattle.format.specs.Marks.{is_integer}
-use Rattle.format.proofs.MarkFacts.{integer_wide}
 use Rattle.dimensions.proofs.Cases.{marked_early, marked_other, marked_there}
 use Rattle.dimensions.proofs.forms.marked.Goals as goal
 

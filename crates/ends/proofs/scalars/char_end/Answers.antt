@@ -1,6 +1,5 @@
 -- `char_end`: `C` and a byte below 128. Assumes nothing.
 use native.Mathlib.Omega.{arith}
-use borrow.Author.Rules.{rules}
 use Rattle.ends.proofs.EndLaws.{char_ends}
 use Rattle.ends.proofs.scalars.char_end.Goals as goal
 

@@ -1,7 +1,6 @@
 -- `scalar_end`: by the mark's number of bytes, and no char over 127. Assumes nothing.
 use Prim.Native.Nat.{◌+◌}
 use native.Mathlib.Omega.{arith}
-use borrow.Author.Rules.{rules}
 use Rattle.ends.proofs.EndLaws.{spans_ends}
 use Rattle.ends.proofs.scalars.scalar_end.Goals as goal
 

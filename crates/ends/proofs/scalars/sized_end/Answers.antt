@@ -1,6 +1,5 @@
 -- `sized_end`: it fits, or it may be a char. Assumes nothing.
 use native.Mathlib.Omega.{arith}
-use borrow.Author.Rules.{rules}
 use Rattle.ends.proofs.EndLaws.{sized_ends}
 use Rattle.ends.proofs.scalars.sized_end.Goals as goal
 

@@ -1,6 +1,5 @@
 -- `size`: the mark is a byte. Assumes nothing.
 use native.Mathlib.Omega.{arith}
-use borrow.Author.Rules.{rules}
 use Rattle.format.proofs.MarkFacts.{width_few}
 use Rattle.ends.proofs.sizes.size.Goals as goal
 

@@ -1,7 +1,5 @@
 -- `size_by_jump`: at each letter the bytes that it has; at the others a number that no message has. Assumes nothing.
 use mathlib.Core.Path.{refl}
-use native.Mathlib.Omega.{arith}
-use borrow.Author.Rules.{rules}
 use Rattle.format.specs.Conditions.{among}
 use Rattle.format.specs.Marks.{integers, types, is_scalar}
 use Rattle.ends.proofs.EndLaws.{sized_at}

@@ -1,7 +1,6 @@
 -- `size_of`: by the mark's traits. Assumes nothing.
 use mathlib.Core.Path.{◌∙◌, sym, ap}
 use native.Mathlib.Omega.{arith}
-use borrow.Author.Rules.{rules}
 use borrow.Author.Tests.{not-false}
 use Rattle.format.specs.Traits.{traits_of}
 use Rattle.format.proofs.MarkFacts.{width_few}

@@ -1,6 +1,5 @@
 -- `sizes`: at each letter the bytes that it has. Assumes nothing.
 use mathlib.Core.Path.{refl}
-use borrow.Author.Rules.{rules}
 use Rattle.format.specs.Conditions.{among}
 use Rattle.format.specs.Marks.{integers, types, is_scalar, 'B', 'C', 'D', 'F', 'I', 'L', 'M', 'T', 'U', 'Z', 'd', 'h', 'i', 'l', 'm', 'u'}
 use Rattle.ends.proofs.EndLaws.{sizes_none, sizes-set}

@@ -1,6 +1,5 @@
 -- `small_size`: no mark has more than nine bytes. Assumes nothing.
 use native.Mathlib.Omega.{arith}
-use borrow.Author.Rules.{rules}
 use Rattle.format.proofs.MarkFacts.{width_few}
 use Rattle.ends.proofs.sizes.small_size.Goals as goal
 

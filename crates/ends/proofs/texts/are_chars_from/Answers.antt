@@ -1,7 +1,6 @@
 -- `are_chars_from`: many; or the first of 32 that all are; or one by one. Assumes nothing.
 use mathlib.Core.Path.{sym, ◌∙◌, ap}
 use native.Mathlib.Omega.{arith}
-use borrow.Author.Rules.{rules}
 use Rattle.format.specs.Conditions.{all}
 use Rattle.format.proofs.Parts.{part_is}
 use Rattle.ends.proofs.EndLaws.{all_fewer}

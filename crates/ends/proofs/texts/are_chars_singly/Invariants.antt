@@ -1,12 +1,9 @@
 -- `are_chars_singly`: each byte before the one reached is a char. Assumes nothing.
 use Prim.Native.Nat.{◌-◌, ◌≤◌}
-use mathlib.Core.Path.{◌≡◌, refl, sym, ◌∙◌}
-use native.Mathlib.Omega.{arith}
+use mathlib.Core.Path.{◌≡◌}
 use lib.ListN.{length, drop}
 use lib.Dec.{leb}
-use borrow.Author.Tests.{le-leb, lt-leb}
 use Rattle.format.specs.Conditions.{all}
-use Rattle.content.proofs.All.{all_on, all_off, all_end}
 use Rattle.ends.proofs.texts.are_chars_singly.Given as goal
 
 abbrev pub invariant-loop-i : goal.invariant-loop-i

@@ -1,8 +1,6 @@
 -- `key_end`: `U`, a length and bytes below 128. Assumes nothing.
-use Prim.Native.Nat.{◌+◌}
 use mathlib.Core.Path.{sym, ◌∙◌, ap}
 use native.Mathlib.Omega.{arith}
-use borrow.Author.Rules.{rules}
 use Rattle.format.specs.Conditions.{all}
 use Rattle.format.proofs.Parts.{part_is}
 use Rattle.ends.proofs.EndLaws.{key_ends}

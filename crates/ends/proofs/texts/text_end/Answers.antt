@@ -1,8 +1,6 @@
 -- `text_end`: `S`, `U`, a length and bytes below 128. Assumes nothing.
-use Prim.Native.Nat.{◌+◌}
 use mathlib.Core.Path.{sym, ◌∙◌}
 use native.Mathlib.Omega.{arith}
-use borrow.Author.Rules.{rules}
 use Rattle.ends.proofs.EndLaws.{text_ends}
 use Rattle.ends.proofs.texts.text_end.Goals as goal
 

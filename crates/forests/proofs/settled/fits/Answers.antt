@@ -1,5 +1,4 @@
 -- `fits`: the room, and the limit. Assumes nothing.
-use borrow.Author.Rules.{rules}
 use borrow.Author.Tests.{le-leb, lt-leb}
 use Rattle.forests.specs.Settled.{fits_in}
 use Rattle.forests.proofs.settled.fits.Goals as goal

@@ -1,6 +1,5 @@
 -- `settle`: by whether it fits. Assumes nothing.
 use mathlib.Core.Path.{sym, ◌∙◌}
-use borrow.Author.Rules.{rules}
 use Rattle.forests.specs.Settled.{fitting, too_long}
 use Rattle.rows.proofs.Clearing.{cleared_all}
 use Rattle.forests.proofs.settled.settle.Goals as goal

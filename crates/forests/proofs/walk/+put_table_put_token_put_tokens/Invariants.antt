@@ -1,17 +1,10 @@
 -- The cycle of `put_tokens`, `put_token` and `put_table`: a token's rows are among those of the tokens, and those below it are fewer.
 -- Assumes nothing.
-use Prim.Native.Nat.{ℕ, ◌+◌, ◌*◌, ◌-◌, ◌≤◌, ◌<◌}
-use mathlib.Core.Path.{◌≡◌, refl, sym, ◌∙◌}
-use native.Mathlib.Omega.{arith}
+use Prim.Native.Nat.{◌+◌, ◌*◌, ◌-◌, ◌≤◌}
+use mathlib.Core.Path.{◌≡◌}
 use lib.ListN.{length}
-use borrow.Author.Rules.{rules}
-use borrow.Author.Tests.{eq-eqb, ne_eqb}
-use Rattle.rows.specs.Row as Row
-use Rattle.pieces.proofs.Putting.{puts_append}
 use Rattle.forests.specs.Held.{Held, most}
-use Rattle.forests.proofs.Steps.{held_step, token-single, token_nested, token-table}
-use Rattle.forests.proofs.Going.{Going, going_start, going_on, going_end}
-use Rattle.forests.proofs.Lengths.{head_few, middle_few, single_few, tail_few}
+use Rattle.forests.proofs.Going.{Going}
 use Rattle.forests.proofs.walk.+put_table_put_token_put_tokens.Given as goal
 
 abbrev pub decreases-put_table : goal.decreases-put_table

@@ -2,7 +2,6 @@
 use Prim.Native.Nat.{◌<◌}
 use mathlib.Core.Path.{sym, ap, ◌∙◌}
 use native.Mathlib.Omega.{arith}
-use borrow.Author.Rules.{rules}
 use Rattle.scan.specs.Numbers.{parsed}
 use Rattle.items.proofs.ContainerCases.{nested_deep, nested_no_row, nested_early, nested_typed, nested_plain, nested_count_fault, nested_counted}
 use Rattle.items.proofs.headers.header_at.Goals as goal

@@ -1,6 +1,5 @@
 -- `class_of`: by the mark and, at `E`, by the edition. Assumes nothing.
 use mathlib.Core.Bool.{and-false}
-use borrow.Author.Rules.{rules}
 use borrow.Author.Tests.{ne_eqb}
 use Rattle.format.specs.Answers.{grammar_of}
 use Rattle.format.specs.Conditions.{when◌then◌else◌}

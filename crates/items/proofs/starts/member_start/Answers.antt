@@ -1,8 +1,5 @@
 -- `member_start`: a value, or a key and a value. Assumes nothing.
-use native.Mathlib.Omega.{arith}
-use borrow.Author.Rules.{rules}
-use borrow.Author.Tests.{not-true, not-false}
-use Rattle.items.proofs.ItemLaws.{member_plain, member-key-fault, member_keyed, within_item}
+use Rattle.items.proofs.ItemLaws.{member_plain, member-key-fault, member_keyed}
 use Rattle.items.proofs.starts.member_start.Goals as goal
 
 pub returns-then-not-brace-clause-meets : goal.returns-then-not-brace-clause-meets

@@ -1,12 +1,10 @@
 -- `value_start`: by what the mark begins. Assumes nothing.
 use mathlib.Core.Path.{sym, ap, ◌∙◌}
-use native.Mathlib.Omega.{arith}
-use borrow.Author.Rules.{rules}
 use Rattle.format.specs.Conditions.{when◌then◌else◌}
 use Rattle.format.specs.Tokens.{is_kind, members}
 use Rattle.items.specs.Items.{class_of}
 use Rattle.items.proofs.ItemCases.{value_early, value_on, value_begins}
-use Rattle.items.proofs.ItemLaws.{whole_meets, whole_within, opened_here}
+use Rattle.items.proofs.ItemLaws.{whole_meets, opened_here}
 use Rattle.items.proofs.starts.value_start.Goals as goal
 
 pub returns-then-end-at-clause-meets : goal.returns-then-end-at-clause-meets

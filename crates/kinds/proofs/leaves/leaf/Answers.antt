@@ -1,6 +1,4 @@
 -- `leaf`: its row is stored with its offset. Assumes nothing.
-use native.Mathlib.Omega.{arith}
-use borrow.Author.Rules.{rules}
 use Rattle.kinds.proofs.Placing.{read_leaf}
 use Rattle.kinds.proofs.leaves.leaf.Goals as goal
 

@@ -1,6 +1,5 @@
 -- `plain_leaf`: a row must be left. Assumes nothing.
 use native.Mathlib.Omega.{arith}
-use borrow.Author.Rules.{rules}
 use Rattle.kinds.proofs.Cases.{leaf_few, plain_no_row, plain_row}
 use Rattle.kinds.proofs.leaves.plain_leaf.Goals as goal
 

@@ -1,6 +1,5 @@
 -- `array_start`: depth, row, and the byte after the mark. Assumes nothing.
 use native.Mathlib.Omega.{arith}
-use borrow.Author.Rules.{rules}
 use Rattle.kinds.proofs.Cases.{nested_deep, array_no_row, array_early, array_typed, array_opens}
 use Rattle.kinds.proofs.Sofar.{sofar_start}
 use Rattle.kinds.proofs.starts.array_start.Goals as goal

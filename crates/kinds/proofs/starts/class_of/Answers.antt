@@ -1,6 +1,5 @@
 -- `class_of`: the tests of the definition, in their order. Assumes nothing.
 use mathlib.Core.Path.{sym, ◌∙◌}
-use borrow.Author.Rules.{rules}
 use Rattle.kinds.proofs.Cases.{kind_plain, kind_text, kind_high, kind_array, kind_record, kind_other}
 use Rattle.kinds.proofs.starts.class_of.Goals as goal
 

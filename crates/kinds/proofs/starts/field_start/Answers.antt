@@ -1,10 +1,8 @@
 -- `field_start`: the key, then the kind. Assumes nothing.
 use Prim.Native.Nat.{◌≤◌}
 use native.Mathlib.Omega.{arith}
-use borrow.Author.Rules.{rules}
-use lib.ListN.{length}
 use Rattle.tokens.proofs.Sofar.{seq_fault}
-use Rattle.kinds.proofs.Sofar.{start_key, start_from}
+use Rattle.kinds.proofs.Sofar.{start_key}
 use Rattle.kinds.proofs.starts.field_start.Goals as goal
 
 pub returns-in-Fault-clause-meets : goal.returns-in-Fault-clause-meets

@@ -1,8 +1,4 @@
 -- `kind_start`: by the class of the mark. Assumes nothing.
-use mathlib.Core.Path.{refl}
-use native.Mathlib.Omega.{arith}
-use borrow.Author.Rules.{rules}
-use Rattle.format.specs.Schemas.{nested}
 use Rattle.kinds.proofs.Cases.{kind_early}
 use Rattle.kinds.proofs.starts.kind_start.Goals as goal
 

@@ -1,21 +1,11 @@
 -- The walk over a schema: a kind, and the members of a schema or a fixed array. Assumes nothing.
-use Prim.Native.Nat.{ℕ, suc, ◌+◌, ◌-◌, ◌*◌, ◌≤◌, ◌<◌}
+use Prim.Native.Nat.{suc, ◌-◌}
 use mathlib.Core.Path.{◌≡◌, sym, ◌∙◌}
 use native.Mathlib.Omega.{arith}
-use lib.ListN.{length}
-use borrow.Author.Rules.{rules}
-use Rattle.format.specs.Outcome.{done}
-use Rattle.format.specs.Limits.{record_limit}
-use Rattle.format.specs.Marks.{opening_of}
-use Rattle.format.specs.Tokens.{Forest}
-use Rattle.format.specs.Records.{total_width}
-use Rattle.format.specs.Schemas.{nested}
 use Rattle.scan.proofs.Stands.{stands_there, stands_other}
 use Rattle.columns.proofs.Leaves.{kind_bracket, kind_brace}
 use Rattle.contents.proofs.Groups.{kind_there, opened, not_nested, opened_there}
-use Rattle.leaf_search.specs.Search.{past}
-use Rattle.leaf_search.specs.Walks.{Begins}
-use Rattle.leaf_search.proofs.Turns.{Rest, Leads, inside, group_start, group_on, group_closed, group_next}
+use Rattle.leaf_search.proofs.Turns.{inside, group_start, group_on, group_closed, group_next}
 use Rattle.leaf_search.proofs.kinds.+group_kind.Goals as goal
 
 pub group-returns-then-levels-eq0-clause-is : goal.group-returns-then-levels-eq0-clause-is

@@ -1,7 +1,5 @@
 -- `leaf`: a mark alone, or `S` and an integer. Assumes nothing.
 use mathlib.Core.Path.{sym, ◌∙◌, ap}
-use native.Mathlib.Omega.{arith}
-use borrow.Author.Rules.{rules}
 use Rattle.scan.specs.Numbers.{parsed}
 use Rattle.leaf_search.proofs.LeafWalks.{no_walk, plain_walks, text_walks, unread_walks, other_walks}
 use Rattle.leaf_search.proofs.leaves.leaf.Goals as goal

@@ -1,26 +1,14 @@
 -- The cycle of `container`, `member`, `following`, `counted`, `plain`, `rest`, `deep` and `held`: each call has a level less, or is nearer to where a level is taken. Assumes nothing.
-use Prim.Native.Nat.{ℕ, ◌+◌, ◌*◌, ◌-◌, ◌≤◌, ◌<◌}
-use mathlib.Core.Path.{◌≡◌, refl, sym, ◌∙◌}
-use native.Mathlib.Omega.{arith}
-use native.Mathlib.Nat.{sub-zero}
+use Prim.Native.Nat.{ℕ, ◌+◌, ◌*◌, ◌-◌, ◌≤◌}
+use mathlib.Core.Path.{◌≡◌}
 use lib.ListN.{length}
-use borrow.Author.Rules.{rules}
-use borrow.Author.Tests.{not-false}
 use Rattle.format.specs.Answers.{grammar_of}
 use Rattle.format.specs.Marks.{opening_of, closes}
 use Rattle.format.specs.Bytes.{skip}
 use Rattle.format.specs.Sequences.{spaced}
-use Rattle.format.specs.Read.{nested}
-use Rattle.laws.proofs.Skips.{skip_again}
 use Rattle.rows.specs.Row.{ancestry_of}
-use Rattle.scan.proofs.Stands.{stands_there}
-use Rattle.runs.proofs.Passing.{passed_start, passed_one}
-use Rattle.tokens.proofs.Laying.{within_from}
 use Rattle.items.specs.Headers.{member_of}
-use Rattle.items.proofs.ItemLaws.{opened_meets}
-use Rattle.nesting.proofs.Following.{closing_here, opening_begins, first-fault, one_meets, one_within, some_passed, until_passed, until_skip, passed_stop, list_passed, list_within, each_byte, plus_small, opened_plain}
-use Rattle.containers.proofs.Closing.{list_cap}
-use Rattle.containers.proofs.Loops.{Going, Some, some_start, some_step, some_fault, some_end, Until, until_start, until_early, until_stop, until-fault}
+use Rattle.containers.proofs.Loops.{Going, Some, Until}
 use Rattle.nesting.proofs.values.+container_counted_deep_following_held_member_plain_rest.Given as goal
 
 abbrev pub decreases-container : goal.decreases-container

@@ -1,9 +1,6 @@
 -- `put_digits`: digit by digit. Assumes nothing.
-use Prim.Native.Nat.{◌+◌, ◌≤◌}
 use native.Mathlib.Omega.{arith}
-use borrow.Author.Rules.{rules}
-use Rattle.format.specs.HouseForm.{digits}
-use Rattle.pieces.proofs.Putting.{Going, going_start, going_on, going_end}
+use Rattle.pieces.proofs.Putting.{going_on, going_end}
 use Rattle.pieces.proofs.bytes.put_digits.Goals as goal
 
 pub loop-left-preserved : goal.loop-left-preserved

@@ -1,9 +1,7 @@
 -- `put_digits`: digit by digit. Assumes nothing.
 use Prim.Native.Nat.{◌+◌, ◌≤◌}
-use native.Mathlib.Omega.{arith}
-use borrow.Author.Rules.{rules}
 use Rattle.format.specs.HouseForm.{digits}
-use Rattle.pieces.proofs.Putting.{Going, going_start, going_on, going_end}
+use Rattle.pieces.proofs.Putting.{Going}
 use Rattle.pieces.proofs.bytes.put_digits.Given as goal
 
 abbrev pub invariant-loop-left : goal.invariant-loop-left

@@ -1,6 +1,4 @@
 -- `put_integer`: under the smallest mark. Assumes nothing.
-use native.Mathlib.Omega.{arith}
-use borrow.Author.Rules.{rules}
 use Rattle.format.specs.Marks.{'U', 'u', 'm'}
 use Rattle.pieces.proofs.Putting.{in_one, in_two, in_four, integer_puts}
 use Rattle.pieces.proofs.bytes.put_integer.Goals as goal

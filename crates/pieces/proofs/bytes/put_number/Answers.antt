@@ -1,12 +1,7 @@
 -- `put_number`: the mark, and then its digits. Assumes nothing.
-use mathlib.Core.Path.{◌∙◌}
-use mathlib.Core.List.{[], ◌∷◌}
 use native.Mathlib.Omega.{arith}
-use borrow.Author.Rules.{rules}
 use Rattle.format.specs.Marks.{width}
-use Rattle.format.specs.HouseForm.{digits}
 use Rattle.format.proofs.MarkFacts.{width_few}
-use Rattle.pieces.proofs.Putting.{puts_append}
 use Rattle.pieces.proofs.bytes.put_number.Goals as goal
 
 pub put_digits-requires : goal.put_digits-requires

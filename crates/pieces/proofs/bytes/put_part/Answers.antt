@@ -1,10 +1,9 @@
 -- `put_part`: a byte at a time, if there is room for all. Assumes nothing.
-use Prim.Native.Nat.{◌+◌, ◌-◌, ◌≤◌}
-use mathlib.Core.Path.{◌≡◌, refl, ap, ◌∙◌}
+use Prim.Native.Nat.{◌+◌}
+use mathlib.Core.Path.{ap, ◌∙◌}
 use native.Mathlib.Omega.{arith}
-use lib.ListN.{length, take, set, get_or, length-set}
-use lib.Seq.{sets}
-use Rattle.pieces.proofs.Putting.{puts_over, part_on, part_end}
+use lib.ListN.{set, get_or, length-set}
+use Rattle.pieces.proofs.Putting.{part_on}
 use Rattle.pieces.proofs.bytes.put_part.Goals as goal
 
 pub loop-i-preserved : goal.loop-i-preserved

@@ -1,10 +1,8 @@
 -- `put_part`: a byte at a time, if there is room for all. Assumes nothing.
-use Prim.Native.Nat.{◌+◌, ◌-◌, ◌≤◌}
-use mathlib.Core.Path.{◌≡◌, refl, ap, ◌∙◌}
-use native.Mathlib.Omega.{arith}
-use lib.ListN.{length, take, set, get_or, length-set}
+use Prim.Native.Nat.{◌-◌, ◌≤◌}
+use mathlib.Core.Path.{◌≡◌}
+use lib.ListN.{length, take}
 use lib.Seq.{sets}
-use Rattle.pieces.proofs.Putting.{puts_over, part_on, part_end}
 use Rattle.pieces.proofs.bytes.put_part.Given as goal
 
 abbrev pub invariant-loop-i : goal.invariant-loop-i

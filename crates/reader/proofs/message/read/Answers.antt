@@ -1,7 +1,6 @@
 -- `read`: the rows are stored, and the words after them cleared; on refusal all are. Assumes nothing.
 use mathlib.Core.Path.{◌≡◌, ◌∙◌}
 use native.Mathlib.Omega.{arith}
-use borrow.Author.Rules.{rules}
 use lib.ListN.{length}
 use Rattle.format.specs.Rows.{rows_in}
 use Rattle.format.specs.Read.{read_into}

@@ -1,11 +1,10 @@
 -- `read_core`: the limit, the value, and what follows it. Assumes nothing.
 use native.Mathlib.Omega.{arith}
 use Prim.Native.Nat.{ℕ, ◌≤◌}
-use mathlib.Core.Path.{ap, sym, subst}
+use mathlib.Core.Path.{subst}
 use mathlib.Core.List.{List}
 use lib.ListN.{length}
 use lib.Seq.{take-length}
-use borrow.Author.Rules.{rules}
 use Rattle.reader.proofs.MessageCases.{read_long, read-fault, read_more, read_lies}
 use Rattle.reader.proofs.message.read_core.Goals as goal
 

@@ -1,7 +1,6 @@
 -- `read_front`: the core over cleared words, with rows enough. Assumes nothing.
 use mathlib.Core.Path.{◌≡◌, ◌∙◌}
 use native.Mathlib.Omega.{arith}
-use borrow.Author.Rules.{rules}
 use lib.ListN.{length}
 use Rattle.format.specs.Read.{read_whole}
 use Rattle.reader.proofs.MessageCases.{used, refused, front_filled, front_zero}

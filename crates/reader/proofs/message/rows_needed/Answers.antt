@@ -1,5 +1,4 @@
 -- `rows_needed`: the core with no table. Assumes nothing.
-use borrow.Author.Rules.{rules}
 use Rattle.format.specs.Read.{read_whole}
 use Rattle.reader.proofs.MessageCases.{used, refused}
 use Rattle.reader.proofs.message.rows_needed.Goals as goal

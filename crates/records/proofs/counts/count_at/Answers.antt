@@ -5,7 +5,6 @@ use mathlib.Core.Bool.{false}
 use mathlib.Core.List.{List}
 use native.Mathlib.Omega.{arith}
 use lib.ListN.{length}
-use borrow.Author.Rules.{rules}
 use Rattle.format.specs.Outcome.{fault, done}
 use Rattle.format.specs.Limits.{limit}
 use Rattle.format.specs.Rows.{Ancestry}

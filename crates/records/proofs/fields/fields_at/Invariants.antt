@@ -1,23 +1,18 @@
 -- `fields_at`: a walk over each field, and what is found in it. Assumes nothing.
 use Prim.Native.Nat.{ℕ, ◌-◌, ◌≤◌}
-use mathlib.Core.Path.{◌≡◌, sym, ◌∙◌}
-use mathlib.Core.Bool.{true}
-use native.Mathlib.Omega.{arith}
+use mathlib.Core.Path.{◌≡◌}
 use lib.ListN.{length}
-use borrow.Author.Rules.{rules}
 use Rattle.format.specs.Outcome.{done}
 use Rattle.format.specs.Limits.{record_limit}
-use Rattle.format.specs.Marks.{brace, closes}
+use Rattle.format.specs.Marks.{brace}
 use Rattle.format.specs.Tokens.{Forest, below_first}
 use Rattle.format.specs.Records.{total_width}
 use Rattle.format.specs.Schemas.{table_schema}
-use Rattle.scan.proofs.Stands.{stands_there, stands_other}
-use Rattle.contents.proofs.Groups.{opened_there}
 use Rattle.leaf_search.specs.Search.{in_fields}
 use Rattle.leaf_search.specs.Walks.{Begins}
 use Rattle.leaf_search.specs.declared.leaves.Seen.TheVariants.{Left}
-use Rattle.leaf_search.proofs.Turns.{Rest, inside}
-use Rattle.records.proofs.FieldTurns.{latest_within, span_within, Leads, fields_opened, fields_start, fields_on, fields_closed, fields_next}
+use Rattle.leaf_search.proofs.Turns.{Rest}
+use Rattle.records.proofs.FieldTurns.{Leads}
 use Rattle.records.proofs.fields.fields_at.Given as goal
 
 abbrev pub invariant-loop-i : goal.invariant-loop-i

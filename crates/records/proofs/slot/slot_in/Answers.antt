@@ -1,6 +1,5 @@
 -- `slot_in`: the walk over the schema, the count, and the formula. Assumes nothing.
 use native.Mathlib.Omega.{arith}
-use borrow.Author.Rules.{rules}
 use Rattle.records.proofs.Answered.{table_inside, answer_missing, answer_past, answer_found}
 use Rattle.records.proofs.slot.slot_in.Goals as goal
 

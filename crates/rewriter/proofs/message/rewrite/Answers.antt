@@ -1,6 +1,5 @@
 -- `rewrite`: read, written in one walk, and settled. Assumes nothing.
 use native.Mathlib.Omega.{arith}
-use borrow.Author.Rules.{rules}
 use Rattle.rewriter.proofs.Rewrites.{accepts, held_read, room_read, refused, settled}
 use Rattle.rewriter.proofs.message.rewrite.Goals as goal
 

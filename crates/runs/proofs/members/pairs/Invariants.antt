@@ -1,11 +1,8 @@
 -- `pairs`: a loop over them. Assumes nothing.
 use Prim.Native.Nat.{◌-◌}
-use mathlib.Core.Path.{◌∙◌}
-use native.Mathlib.Omega.{arith}
-use borrow.Author.Rules.{rules}
 use Rattle.format.specs.Marks.{brace}
 use Rattle.rows.specs.Row.{ancestry_of}
-use Rattle.runs.proofs.MemberLaws.{Running, running_start, running_turn, pair_passed, value_stands, value_starts, value_inside}
+use Rattle.runs.proofs.MemberLaws.{Running}
 use Rattle.runs.proofs.members.pairs.Given as goal
 
 abbrev pub invariant-loop-count : goal.invariant-loop-count

@@ -1,6 +1,5 @@
 -- `put_value`: by the mark. Assumes nothing.
 use native.Mathlib.Omega.{arith}
-use borrow.Author.Rules.{rules}
 use Rattle.runs.proofs.MemberLaws.{value_start_text, value_start_scalar, value_token_text, value_token_scalar}
 use Rattle.runs.proofs.members.put_value.Goals as goal
 

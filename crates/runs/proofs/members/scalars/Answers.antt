@@ -1,10 +1,7 @@
 -- `scalars`: a loop over them. Assumes nothing.
-use Prim.Native.Nat.{◌-◌}
 use native.Mathlib.Omega.{arith}
-use borrow.Author.Rules.{rules}
 use Rattle.format.specs.Marks.{bracket}
-use Rattle.rows.specs.Row.{ancestry_of}
-use Rattle.runs.proofs.MemberLaws.{Running, running_start, running_turn, value_passed, scalar_stands}
+use Rattle.runs.proofs.MemberLaws.{running_start, running_turn, value_passed, scalar_stands}
 use Rattle.runs.proofs.members.scalars.Goals as goal
 
 pub returns-then-not-is_scalar : goal.returns-then-not-is_scalar

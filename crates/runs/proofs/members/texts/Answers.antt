@@ -1,10 +1,6 @@
 -- `texts`: a loop over them. Assumes nothing.
-use Prim.Native.Nat.{◌-◌}
 use native.Mathlib.Omega.{arith}
-use borrow.Author.Rules.{rules}
-use Rattle.format.specs.Marks.{bracket}
-use Rattle.rows.specs.Row.{ancestry_of}
-use Rattle.runs.proofs.MemberLaws.{Running, running_start, running_turn, value_passed, text_stands}
+use Rattle.runs.proofs.MemberLaws.{running_start, running_turn, value_passed, text_stands}
 use Rattle.runs.proofs.members.texts.Goals as goal
 
 pub loop-count-init : goal.loop-count-init

@@ -1,6 +1,5 @@
 -- `values`: texts; or scalars, where those of the first's mark come first. Assumes nothing.
 use native.Mathlib.Omega.{arith}
-use borrow.Author.Rules.{rules}
 use Rattle.runs.proofs.MemberLaws.{passed_more}
 use Rattle.runs.proofs.members.values.Goals as goal
 

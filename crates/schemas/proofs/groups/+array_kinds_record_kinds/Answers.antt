@@ -1,19 +1,14 @@
 -- `record_kinds` and `array_kinds`, which call each other: the levels left fall. Assumes nothing.
-use Prim.Native.Nat.{ℕ, ◌+◌, ◌-◌, ◌<◌}
-use mathlib.Core.Path.{◌≡◌, refl, sym, ◌∙◌}
-use mathlib.Core.Logic.{⊎_elim}
+use mathlib.Core.Path.{refl, sym, ◌∙◌}
 use native.Mathlib.Omega.{arith}
-use borrow.Author.Rules.{rules}
-use lib.ListN.{length}
-use Rattle.format.specs.Marks.{bracket, brace, opens, closes}
-use Rattle.format.specs.Tokens.{is_kind, schema_record, fixed_array}
+use Rattle.format.specs.Marks.{opens, closes}
+use Rattle.format.specs.Tokens.{is_kind}
 use Rattle.scan.proofs.Stands.{stands_there}
 use Rattle.rows.specs.Row.{ancestry_of}
-use Rattle.kinds.specs.Answers.{kind_at, field_at, Ends}
+use Rattle.kinds.specs.Answers.{kind_at, field_at}
 use Rattle.kinds.proofs.Cases.{kind_early, field_early}
-use Rattle.schemas.proofs.Loop.{Before, After, loop_start, loop_fault, loop_read, loop_on, loop_end, Member, member_ended, member_array, member_record}
+use Rattle.schemas.proofs.Loop.{loop_start, loop_fault, loop_read, loop_on, loop_end, Member, member_ended, member_array, member_record}
 use Rattle.schemas.proofs.groups.+array_kinds_record_kinds.Goals as goal
-
 use Rattle.schemas.proofs.groups.+array_kinds_record_kinds.Goals.{array_kinds-in-Ended, array_kinds-in-Array, array_kinds-in-Record}
 use Rattle.schemas.proofs.groups.+array_kinds_record_kinds.Goals.{record_kinds-in-Ended, record_kinds-in-Array, record_kinds-in-Record}
 
@@ -27,7 +22,7 @@ unfolding closes opens is_kind
 array_kinds-returns-in-Fault-clause-meets t c =
     let s = c.kind_start in
     let member : Member c.args.message.now c.args.lent (kind_at c.args.message.now c.args.lent c.args.levels) c.loop-k.here c.loop-k.next c.loop-k.end (ancestry_of c.held_by-children.result) c.loop-k.rows c.match-kind_start.rows c.match-kind_start.kind = elim c.match-kind_start.branch [
-      array_kinds-in-Ended w ↦ rw (w.rows-is, w.kind-is) (member_ended _ _ _ _ _ _ _ _ _ _ _ s.result w.in-Ended.is s.auto.rows s.ensures.meets s.ensures.bounds)
+      | array_kinds-in-Ended w ↦ rw (w.rows-is, w.kind-is) (member_ended _ _ _ _ _ _ _ _ _ _ _ s.result w.in-Ended.is s.auto.rows s.ensures.meets s.ensures.bounds)
       | array_kinds-in-Array w ↦ rw (w.rows-is, w.kind-is) (member_array _ _ _ _ _ _ _ _ _ _ _ _ _ _ s.result w.in-Array.is (w.array_kinds-kind.auto.rows ∙ s.auto.rows) s.ensures.meets s.ensures.bounds w.array_kinds-kind.ensures.meets w.array_kinds-kind.ensures.bounds)
       | array_kinds-in-Record w ↦ rw (w.rows-is, w.kind-is) (member_record _ _ _ _ _ _ _ _ _ _ _ _ _ _ s.result w.in-Record.is (w.record_kinds-kind.auto.rows ∙ s.auto.rows) s.ensures.meets s.ensures.bounds w.record_kinds-kind.ensures.meets w.record_kinds-kind.ensures.bounds)
     ] in
@@ -38,7 +33,7 @@ unfolding closes opens is_kind
 array_kinds-returns-then-stands-clause-meets t c =
     let s = c.kind_start in
     let member : Member c.args.message.now c.args.lent (kind_at c.args.message.now c.args.lent c.args.levels) c.loop-k.here c.loop-k.next c.loop-k.end (ancestry_of c.held_by-children.result) c.loop-k.rows c.match-kind_start.rows c.match-kind_start.kind = elim c.match-kind_start.branch [
-      array_kinds-in-Ended w ↦ rw (w.rows-is, w.kind-is) (member_ended _ _ _ _ _ _ _ _ _ _ _ s.result w.in-Ended.is s.auto.rows s.ensures.meets s.ensures.bounds)
+      | array_kinds-in-Ended w ↦ rw (w.rows-is, w.kind-is) (member_ended _ _ _ _ _ _ _ _ _ _ _ s.result w.in-Ended.is s.auto.rows s.ensures.meets s.ensures.bounds)
       | array_kinds-in-Array w ↦ rw (w.rows-is, w.kind-is) (member_array _ _ _ _ _ _ _ _ _ _ _ _ _ _ s.result w.in-Array.is (w.array_kinds-kind.auto.rows ∙ s.auto.rows) s.ensures.meets s.ensures.bounds w.array_kinds-kind.ensures.meets w.array_kinds-kind.ensures.bounds)
       | array_kinds-in-Record w ↦ rw (w.rows-is, w.kind-is) (member_record _ _ _ _ _ _ _ _ _ _ _ _ _ _ s.result w.in-Record.is (w.record_kinds-kind.auto.rows ∙ s.auto.rows) s.ensures.meets s.ensures.bounds w.record_kinds-kind.ensures.meets w.record_kinds-kind.ensures.bounds)
     ] in
@@ -53,7 +48,7 @@ unfolding closes opens is_kind
 array_kinds-returns-then-stands-clause-bounds t c =
     let s = c.kind_start in
     let member : Member c.args.message.now c.args.lent (kind_at c.args.message.now c.args.lent c.args.levels) c.loop-k.here c.loop-k.next c.loop-k.end (ancestry_of c.held_by-children.result) c.loop-k.rows c.match-kind_start.rows c.match-kind_start.kind = elim c.match-kind_start.branch [
-      array_kinds-in-Ended w ↦ rw (w.rows-is, w.kind-is) (member_ended _ _ _ _ _ _ _ _ _ _ _ s.result w.in-Ended.is s.auto.rows s.ensures.meets s.ensures.bounds)
+      | array_kinds-in-Ended w ↦ rw (w.rows-is, w.kind-is) (member_ended _ _ _ _ _ _ _ _ _ _ _ s.result w.in-Ended.is s.auto.rows s.ensures.meets s.ensures.bounds)
       | array_kinds-in-Array w ↦ rw (w.rows-is, w.kind-is) (member_array _ _ _ _ _ _ _ _ _ _ _ _ _ _ s.result w.in-Array.is (w.array_kinds-kind.auto.rows ∙ s.auto.rows) s.ensures.meets s.ensures.bounds w.array_kinds-kind.ensures.meets w.array_kinds-kind.ensures.bounds)
       | array_kinds-in-Record w ↦ rw (w.rows-is, w.kind-is) (member_record _ _ _ _ _ _ _ _ _ _ _ _ _ _ s.result w.in-Record.is (w.record_kinds-kind.auto.rows ∙ s.auto.rows) s.ensures.meets s.ensures.bounds w.record_kinds-kind.ensures.meets w.record_kinds-kind.ensures.bounds)
     ] in
@@ -70,7 +65,7 @@ unfolding closes opens is_kind
 array_kinds-loop-k-preserved t c =
     let s = c.kind_start in
     let member : Member c.args.message.now c.args.lent (kind_at c.args.message.now c.args.lent c.args.levels) c.loop-k.here c.loop-k.next c.loop-k.end (ancestry_of c.held_by-children.result) c.loop-k.rows c.match-kind_start.rows c.match-kind_start.kind = elim c.match-kind_start.branch [
-      array_kinds-in-Ended w ↦ rw (w.rows-is, w.kind-is) (member_ended _ _ _ _ _ _ _ _ _ _ _ s.result w.in-Ended.is s.auto.rows s.ensures.meets s.ensures.bounds)
+      | array_kinds-in-Ended w ↦ rw (w.rows-is, w.kind-is) (member_ended _ _ _ _ _ _ _ _ _ _ _ s.result w.in-Ended.is s.auto.rows s.ensures.meets s.ensures.bounds)
       | array_kinds-in-Array w ↦ rw (w.rows-is, w.kind-is) (member_array _ _ _ _ _ _ _ _ _ _ _ _ _ _ s.result w.in-Array.is (w.array_kinds-kind.auto.rows ∙ s.auto.rows) s.ensures.meets s.ensures.bounds w.array_kinds-kind.ensures.meets w.array_kinds-kind.ensures.bounds)
       | array_kinds-in-Record w ↦ rw (w.rows-is, w.kind-is) (member_record _ _ _ _ _ _ _ _ _ _ _ _ _ _ s.result w.in-Record.is (w.record_kinds-kind.auto.rows ∙ s.auto.rows) s.ensures.meets s.ensures.bounds w.record_kinds-kind.ensures.meets w.record_kinds-kind.ensures.bounds)
     ] in
@@ -89,7 +84,7 @@ unfolding closes opens is_kind
 record_kinds-returns-in-Fault-clause-meets t c =
     let s = c.field_start in
     let member : Member c.args.message.now c.args.lent (field_at c.args.message.now c.args.lent c.args.levels) c.loop-k.here c.loop-k.next c.loop-k.end (ancestry_of c.held_by-children.result) c.loop-k.rows c.match-field_start.rows c.match-field_start.kind = elim c.match-field_start.branch [
-      record_kinds-in-Ended w ↦ rw (w.rows-is, w.kind-is) (member_ended _ _ _ _ _ _ _ _ _ _ _ s.result w.in-Ended.is s.auto.rows s.ensures.meets s.ensures.bounds)
+      | record_kinds-in-Ended w ↦ rw (w.rows-is, w.kind-is) (member_ended _ _ _ _ _ _ _ _ _ _ _ s.result w.in-Ended.is s.auto.rows s.ensures.meets s.ensures.bounds)
       | record_kinds-in-Array w ↦ rw (w.rows-is, w.kind-is) (member_array _ _ _ _ _ _ _ _ _ _ _ _ _ _ s.result w.in-Array.is (w.array_kinds-kind.auto.rows ∙ s.auto.rows) s.ensures.meets s.ensures.bounds w.array_kinds-kind.ensures.meets w.array_kinds-kind.ensures.bounds)
       | record_kinds-in-Record w ↦ rw (w.rows-is, w.kind-is) (member_record _ _ _ _ _ _ _ _ _ _ _ _ _ _ s.result w.in-Record.is (w.record_kinds-kind.auto.rows ∙ s.auto.rows) s.ensures.meets s.ensures.bounds w.record_kinds-kind.ensures.meets w.record_kinds-kind.ensures.bounds)
     ] in
@@ -100,7 +95,7 @@ unfolding closes opens is_kind
 record_kinds-returns-then-stands-clause-meets t c =
     let s = c.field_start in
     let member : Member c.args.message.now c.args.lent (field_at c.args.message.now c.args.lent c.args.levels) c.loop-k.here c.loop-k.next c.loop-k.end (ancestry_of c.held_by-children.result) c.loop-k.rows c.match-field_start.rows c.match-field_start.kind = elim c.match-field_start.branch [
-      record_kinds-in-Ended w ↦ rw (w.rows-is, w.kind-is) (member_ended _ _ _ _ _ _ _ _ _ _ _ s.result w.in-Ended.is s.auto.rows s.ensures.meets s.ensures.bounds)
+      | record_kinds-in-Ended w ↦ rw (w.rows-is, w.kind-is) (member_ended _ _ _ _ _ _ _ _ _ _ _ s.result w.in-Ended.is s.auto.rows s.ensures.meets s.ensures.bounds)
       | record_kinds-in-Array w ↦ rw (w.rows-is, w.kind-is) (member_array _ _ _ _ _ _ _ _ _ _ _ _ _ _ s.result w.in-Array.is (w.array_kinds-kind.auto.rows ∙ s.auto.rows) s.ensures.meets s.ensures.bounds w.array_kinds-kind.ensures.meets w.array_kinds-kind.ensures.bounds)
       | record_kinds-in-Record w ↦ rw (w.rows-is, w.kind-is) (member_record _ _ _ _ _ _ _ _ _ _ _ _ _ _ s.result w.in-Record.is (w.record_kinds-kind.auto.rows ∙ s.auto.rows) s.ensures.meets s.ensures.bounds w.record_kinds-kind.ensures.meets w.record_kinds-kind.ensures.bounds)
     ] in
@@ -115,7 +110,7 @@ unfolding closes opens is_kind
 record_kinds-returns-then-stands-clause-bounds t c =
     let s = c.field_start in
     let member : Member c.args.message.now c.args.lent (field_at c.args.message.now c.args.lent c.args.levels) c.loop-k.here c.loop-k.next c.loop-k.end (ancestry_of c.held_by-children.result) c.loop-k.rows c.match-field_start.rows c.match-field_start.kind = elim c.match-field_start.branch [
-      record_kinds-in-Ended w ↦ rw (w.rows-is, w.kind-is) (member_ended _ _ _ _ _ _ _ _ _ _ _ s.result w.in-Ended.is s.auto.rows s.ensures.meets s.ensures.bounds)
+      | record_kinds-in-Ended w ↦ rw (w.rows-is, w.kind-is) (member_ended _ _ _ _ _ _ _ _ _ _ _ s.result w.in-Ended.is s.auto.rows s.ensures.meets s.ensures.bounds)
       | record_kinds-in-Array w ↦ rw (w.rows-is, w.kind-is) (member_array _ _ _ _ _ _ _ _ _ _ _ _ _ _ s.result w.in-Array.is (w.array_kinds-kind.auto.rows ∙ s.auto.rows) s.ensures.meets s.ensures.bounds w.array_kinds-kind.ensures.meets w.array_kinds-kind.ensures.bounds)
       | record_kinds-in-Record w ↦ rw (w.rows-is, w.kind-is) (member_record _ _ _ _ _ _ _ _ _ _ _ _ _ _ s.result w.in-Record.is (w.record_kinds-kind.auto.rows ∙ s.auto.rows) s.ensures.meets s.ensures.bounds w.record_kinds-kind.ensures.meets w.record_kinds-kind.ensures.bounds)
     ] in
@@ -132,7 +127,7 @@ unfolding closes opens is_kind
 record_kinds-loop-k-preserved t c =
     let s = c.field_start in
     let member : Member c.args.message.now c.args.lent (field_at c.args.message.now c.args.lent c.args.levels) c.loop-k.here c.loop-k.next c.loop-k.end (ancestry_of c.held_by-children.result) c.loop-k.rows c.match-field_start.rows c.match-field_start.kind = elim c.match-field_start.branch [
-      record_kinds-in-Ended w ↦ rw (w.rows-is, w.kind-is) (member_ended _ _ _ _ _ _ _ _ _ _ _ s.result w.in-Ended.is s.auto.rows s.ensures.meets s.ensures.bounds)
+      | record_kinds-in-Ended w ↦ rw (w.rows-is, w.kind-is) (member_ended _ _ _ _ _ _ _ _ _ _ _ s.result w.in-Ended.is s.auto.rows s.ensures.meets s.ensures.bounds)
       | record_kinds-in-Array w ↦ rw (w.rows-is, w.kind-is) (member_array _ _ _ _ _ _ _ _ _ _ _ _ _ _ s.result w.in-Array.is (w.array_kinds-kind.auto.rows ∙ s.auto.rows) s.ensures.meets s.ensures.bounds w.array_kinds-kind.ensures.meets w.array_kinds-kind.ensures.bounds)
       | record_kinds-in-Record w ↦ rw (w.rows-is, w.kind-is) (member_record _ _ _ _ _ _ _ _ _ _ _ _ _ _ s.result w.in-Record.is (w.record_kinds-kind.auto.rows ∙ s.auto.rows) s.ensures.meets s.ensures.bounds w.record_kinds-kind.ensures.meets w.record_kinds-kind.ensures.bounds)
     ] in

@@ -1,17 +1,12 @@
 -- `record_kinds` and `array_kinds`, which call each other: the levels left fall. Assumes nothing.
-use Prim.Native.Nat.{ℕ, ◌+◌, ◌-◌, ◌<◌}
-use mathlib.Core.Path.{◌≡◌, refl, sym, ◌∙◌}
-use mathlib.Core.Logic.{⊎_elim}
-use native.Mathlib.Omega.{arith}
-use borrow.Author.Rules.{rules}
+use Prim.Native.Nat.{◌-◌}
+use mathlib.Core.Path.{◌≡◌}
 use lib.ListN.{length}
-use Rattle.format.specs.Marks.{bracket, brace, opens, closes}
-use Rattle.format.specs.Tokens.{is_kind, schema_record, fixed_array}
-use Rattle.scan.proofs.Stands.{stands_there}
+use Rattle.format.specs.Marks.{bracket, brace}
+use Rattle.format.specs.Tokens.{schema_record, fixed_array}
 use Rattle.rows.specs.Row.{ancestry_of}
-use Rattle.kinds.specs.Answers.{kind_at, field_at, Ends}
-use Rattle.kinds.proofs.Cases.{kind_early, field_early}
-use Rattle.schemas.proofs.Loop.{Before, After, loop_start, loop_fault, loop_read, loop_on, loop_end, Member, member_ended, member_array, member_record}
+use Rattle.kinds.specs.Answers.{kind_at, field_at}
+use Rattle.schemas.proofs.Loop.{Before}
 use Rattle.schemas.proofs.groups.+array_kinds_record_kinds.Given as goal
 
 abbrev pub decreases-array_kinds : goal.decreases-array_kinds

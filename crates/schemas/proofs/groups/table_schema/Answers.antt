@@ -1,6 +1,4 @@
 -- `table_schema`: a row must be left, then the record, with one level taken. Assumes nothing.
-use native.Mathlib.Omega.{arith}
-use borrow.Author.Rules.{rules}
 use Rattle.kinds.proofs.Cases.{table_no_row, table_opens}
 use Rattle.schemas.proofs.groups.table_schema.Goals as goal
 

@@ -1,18 +1,13 @@
 -- The cycle of `container`, `member`, `counted` and `plain`: each call has a level less, or is nearer to where a level is taken. Assumes nothing.
-use Prim.Native.Nat.{ℕ, ◌+◌, ◌*◌, ◌-◌, ◌<◌}
 use native.Mathlib.Omega.{arith}
 use native.Mathlib.Nat.{add-zero}
-use lib.ListN.{length}
-use borrow.Author.Rules.{rules}
 use Rattle.format.specs.Grammars.{new}
-use Rattle.format.specs.Marks.{opening_of, closes}
-use Rattle.format.specs.Bytes.{skip}
+use Rattle.format.specs.Marks.{opening_of}
 use Rattle.format.specs.Sequences.{spaced}
 use Rattle.items.specs.Headers.{member_of}
-use Rattle.containers.proofs.Loops.{Going}
 use Rattle.seek.proofs.Back.{no_fault}
-use Rattle.seek.proofs.Walking.{ended_within, within_from}
-use Rattle.seek.proofs.Loops.{Some, some_start, some_step, some_stop, some_end, Until, until_start, until_early, until_end, until_stop, until_step}
+use Rattle.seek.proofs.Walking.{ended_within}
+use Rattle.seek.proofs.Loops.{some_start, some_step, some_stop, some_end, until_start, until_early, until_end, until_stop, until_step}
 use Rattle.seek.proofs.Members.{closed_walks, member_past, member_opens}
 use Rattle.seek.proofs.nest.+container_counted_member_plain.Goals as goal
 

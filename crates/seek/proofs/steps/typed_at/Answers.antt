@@ -1,8 +1,6 @@
 -- `typed_at`: a table is the one sought or is passed, others are passed. Assumes nothing.
 use mathlib.Core.Path.{sym, ◌∙◌}
 use native.Mathlib.Omega.{arith}
-use borrow.Author.Rules.{rules}
-use Rattle.seek.proofs.Back.{no_fault}
 use Rattle.seek.proofs.Passing.{passed_within, pass_whole, table_counts, table_found, typed_counts}
 use Rattle.seek.proofs.steps.typed_at.Goals as goal
 

@@ -1,7 +1,5 @@
 -- `fastest`: a vector's shape, and the `]` after it. Assumes nothing.
 use mathlib.Core.Path.{sym}
-use native.Mathlib.Omega.{arith}
-use borrow.Author.Rules.{rules}
 use Rattle.shapes.proofs.Cases.{fastest_wrong, fastest_early, fastest_open, fastest_there}
 use Rattle.shapes.proofs.Told.{told_shaped}
 use Rattle.shapes.proofs.counts.fastest.Goals as goal

@@ -1,7 +1,5 @@
 -- `plain`: the integer. Assumes nothing.
 use mathlib.Core.Path.{sym, ap, ◌∙◌}
-use native.Mathlib.Omega.{arith}
-use borrow.Author.Rules.{rules}
 use Rattle.scan.specs.Numbers.{parsed}
 use Rattle.shapes.proofs.Cases.{plain_wrong, plain_there}
 use Rattle.shapes.proofs.Told.{told_plain}

@@ -1,5 +1,4 @@
 -- `shape`: by one byte or two. Assumes nothing.
-use borrow.Author.Rules.{rules}
 use Rattle.shapes.proofs.Cases.{shape_early, shape-plain, shape_short, shape-slowest, shape-fastest, shape_unwrapped}
 use Rattle.shapes.proofs.counts.shape.Goals as goal
 

@@ -1,6 +1,4 @@
 -- `slowest`: a vector's shape. Assumes nothing.
-use native.Mathlib.Omega.{arith}
-use borrow.Author.Rules.{rules}
 use Rattle.shapes.proofs.Cases.{slowest_wrong, slowest_there}
 use Rattle.shapes.proofs.Told.{told_shaped}
 use Rattle.shapes.proofs.counts.slowest.Goals as goal

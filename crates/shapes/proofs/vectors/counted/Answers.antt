@@ -1,10 +1,7 @@
 -- `counted`: the number of dimensions, its bounds, and then so many. Assumes nothing.
 use mathlib.Core.Path.{sym, ap, ◌∙◌}
-use native.Mathlib.Omega.{arith}
-use borrow.Author.Rules.{rules}
 use Rattle.scan.specs.Numbers.{parsed}
 use Rattle.shapes.proofs.Cases.{counted_wrong, counted_few, counted_over, counted_there}
-use Rattle.dimensions.proofs.Going.{within_from}
 use Rattle.shapes.proofs.vectors.counted.Goals as goal
 
 pub returns-then-n-lt1-clause-meets : goal.returns-then-n-lt1-clause-meets

@@ -2,13 +2,10 @@
 use mathlib.Core.Bool.{true}
 use mathlib.Core.Path.{◌≡◌, sym}
 use native.Mathlib.Omega.{arith}
-use borrow.Author.Rules.{rules}
-use borrow.Author.Tests.{not-true, not-false}
 use lib.ListN.{get_or}
 use Rattle.format.specs.Marks.{is_integer}
 use Rattle.format.proofs.MarkFacts.{integer_wide}
 use Rattle.shapes.proofs.Cases.{counted_bare_early, counted_bare_other, counted_bare_short, counted_bare_unlike, counted-bare_there}
-use Rattle.dimensions.proofs.Going.{within_from}
 use Rattle.shapes.proofs.vectors.counted_bare.Goals as goal
 
 pub returns-then-end-at-clause-meets : goal.returns-then-end-at-clause-meets

@@ -1,17 +1,13 @@
 -- `listed`: an integer record, and then what may follow it. Assumes nothing.
-use Prim.Native.Nat.{◌+◌, ◌≤◌, ◌<◌}
-use mathlib.Core.Path.{◌≡◌, refl, ◌∙◌}
-use native.Mathlib.Omega.{arith}
-use borrow.Author.Rules.{rules}
+use Prim.Native.Nat.{◌+◌, ◌≤◌}
+use mathlib.Core.Path.{◌≡◌}
 use lib.ListN.{length}
 use Rattle.format.specs.Limits.{limit, dimension_limit}
 use Rattle.format.specs.Sequences.{◌⨾◌}
 use Rattle.format.specs.Dimensions.{marked, listed}
 use Rattle.tokens.specs.Answers.{Here}
-use Rattle.tokens.proofs.Sofar.{seq_fault}
-use Rattle.shapes.proofs.Cases.{listed_none, listed_early, listed_closed, listed_more}
 use Rattle.rows.specs.Row.{ancestry_of}
-use Rattle.dimensions.proofs.Going.{Going, going_start, going_as, going_step, going_fault, going_end}
+use Rattle.dimensions.proofs.Going.{Going}
 use Rattle.shapes.proofs.vectors.listed.Given as goal
 
 abbrev pub invariant-loop-number : goal.invariant-loop-number

@@ -1,17 +1,13 @@
 -- `repeated`: so many items, one after another. Assumes nothing.
-use Prim.Native.Nat.{◌+◌, ◌-◌, ◌≤◌}
-use mathlib.Core.Path.{◌≡◌, refl, ◌∙◌}
-use native.Mathlib.Omega.{arith}
-use borrow.Author.Rules.{rules}
+use Prim.Native.Nat.{◌+◌, ◌≤◌}
+use mathlib.Core.Path.{◌≡◌}
 use lib.ListN.{length}
 use Rattle.format.specs.Limits.{limit}
 use Rattle.format.specs.Sequences.{repeat}
 use Rattle.tokens.specs.Answers.{Here}
-use Rattle.tokens.proofs.Sofar.{seq_fault}
 use Rattle.dimensions.specs.Answers.{item_of}
-use Rattle.shapes.proofs.Cases.{repeat-none, repeat_more}
 use Rattle.rows.specs.Row.{ancestry_of}
-use Rattle.dimensions.proofs.Going.{Going, going_start, going_step, going_fault, going_end}
+use Rattle.dimensions.proofs.Going.{Going}
 use Rattle.shapes.proofs.vectors.repeated.Given as goal
 
 abbrev pub invariant-loop-left : goal.invariant-loop-left

@@ -1,8 +1,5 @@
 -- `vector`: by the byte after the `[`. Assumes nothing.
-use native.Mathlib.Omega.{arith}
-use borrow.Author.Rules.{rules}
 use Rattle.shapes.proofs.Cases.{vector_early, vector_empty, vector-counted, vector_typed, vector-listed}
-use Rattle.dimensions.proofs.Going.{within_from}
 use Rattle.shapes.proofs.vectors.vector.Goals as goal
 
 pub returns-then-end-at-clause-meets : goal.returns-then-end-at-clause-meets

@@ -1,7 +1,5 @@
 -- `number_in_table`: the slot, and then its mark. Assumes nothing.
 use mathlib.Core.Path.{sym, ap, ◌∙◌}
-use native.Mathlib.Omega.{arith}
-use borrow.Author.Rules.{rules}
 use Rattle.addresses.specs.Slots.{slot_of}
 use Rattle.slots.proofs.SlotText.{text_refused, text_other, text_there_lem, slot_lies}
 use Rattle.slots.proofs.text.number_in_table.Goals as goal

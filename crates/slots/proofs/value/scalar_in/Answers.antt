@@ -1,6 +1,5 @@
 -- `scalar_in`: case by case. Assumes nothing.
 use mathlib.Core.Path.{refl}
-use borrow.Author.Rules.{rules}
 use Rattle.format.specs.Outcome.{◌>>=◌}
 use Rattle.slots.specs.Scalars.{scalar_in}
 use Rattle.slots.proofs.value.scalar_in.Goals as goal

@@ -1,7 +1,5 @@
 -- `value_in_table`: the slot, and then its scalar. Assumes nothing.
 use mathlib.Core.Path.{ap, ◌∙◌}
-use native.Mathlib.Omega.{arith}
-use borrow.Author.Rules.{rules}
 use Rattle.format.specs.Conditions.{when◌then◌else◌}
 use Rattle.format.specs.Tokens.{is_kind}
 use Rattle.format.specs.Values.{value_in_table}

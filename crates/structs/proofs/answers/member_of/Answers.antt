@@ -1,5 +1,4 @@
 -- `member_of`: by cases. Assumes nothing.
-use borrow.Author.Rules.{rules}
 use Rattle.format.specs.Outcome.{number_of, or_zero}
 use Rattle.structs.proofs.answers.member_of.Goals as goal
 

@@ -1,5 +1,4 @@
 -- `reading_of`: by cases. Assumes nothing.
-use borrow.Author.Rules.{rules}
 use Rattle.format.specs.Outcome.{number_of, place_of, or_zero}
 use Rattle.structs.proofs.answers.reading_of.Goals as goal
 

@@ -1,7 +1,6 @@
 -- `is_text_row`: by the kind, then the mark. Assumes nothing.
 use mathlib.Core.Bool.{or-false}
 use lib.Dec.{eqb}
-use borrow.Author.Rules.{rules}
 use borrow.Author.Tests.{ne_eqb}
 use Rattle.format.specs.TextAnswers.{is_text_row}
 use Rattle.texts.proofs.at_rows.is_text_row.Goals as goal

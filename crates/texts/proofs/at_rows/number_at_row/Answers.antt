@@ -2,8 +2,6 @@
 use Prim.Native.Nat.{◌<◌}
 use mathlib.Core.Path.{◌≡◌, sym, ◌∙◌}
 use mathlib.Core.Bool.{true}
-use borrow.Author.Rules.{rules}
-use borrow.Author.Tests.{not-true, not-false}
 use Rattle.format.specs.Rows.{rows_in}
 use Rattle.format.specs.TextAnswers.{is_text_row}
 use Rattle.format.proofs.Parts.{inside}

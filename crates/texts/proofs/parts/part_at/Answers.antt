@@ -1,7 +1,5 @@
 -- `part_at`: empty, or from the place's first byte to its last. Assumes nothing.
 use mathlib.Core.Path.{◌∙◌}
-use native.Mathlib.Omega.{arith}
-use borrow.Author.Rules.{rules}
 use Rattle.format.proofs.Parts.{part_is}
 use Rattle.texts.proofs.TextCases.{no_part, the_part}
 use Rattle.texts.proofs.parts.part_at.Goals as goal

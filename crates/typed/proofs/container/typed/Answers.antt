@@ -1,6 +1,5 @@
 -- `typed`: by the type. Assumes nothing.
 use native.Mathlib.Omega.{arith}
-use borrow.Author.Rules.{rules}
 use Rattle.format.specs.Containers.{typed_as}
 use Rattle.format.proofs.MarkFacts.{type_wide}
 use Rattle.containers.specs.Lists.{pair_of}

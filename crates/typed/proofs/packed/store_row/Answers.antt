@@ -1,7 +1,4 @@
 -- `store_row`: by the content. Assumes nothing.
-use mathlib.Core.Path.{refl}
-use native.Mathlib.Omega.{arith}
-use borrow.Author.Rules.{rules}
 use Rattle.tokens.proofs.Laying.{laid_under}
 use Rattle.typed.proofs.packed.store_row.Goals as goal
 

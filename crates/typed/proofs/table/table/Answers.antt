@@ -1,7 +1,6 @@
 -- `table`: the schema, the count, the payload. Assumes nothing.
 use mathlib.Core.Path.{sym}
 use native.Mathlib.Omega.{arith}
-use borrow.Author.Rules.{rules}
 use Rattle.typed.proofs.Header.{header_read}
 use Rattle.typed.proofs.TableCases.{table-fault, table_early, table_other, table-shape-fault}
 use Rattle.typed.proofs.table.table.Goals as goal

@@ -1,8 +1,5 @@
 -- `type_at`: byte by byte. Assumes nothing.
 use mathlib.Core.Path.{sym}
-use native.Mathlib.Omega.{arith}
-use borrow.Author.Rules.{rules}
-use borrow.Author.Tests.{not-true, not-false}
 use Rattle.typed.proofs.TypeCases.{typed_early, typed-table, typed_other, typed_cut, typed_uncounted, typed_of}
 use Rattle.typed.proofs.types.type_at.Goals as goal
 

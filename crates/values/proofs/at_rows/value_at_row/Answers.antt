@@ -1,7 +1,6 @@
 -- `value_at_row`: a row of kind 1, then the scalar that it names. Assumes nothing.
 use Prim.Native.Nat.{◌<◌}
 use mathlib.Core.Path.{◌∙◌}
-use borrow.Author.Rules.{rules}
 use Rattle.format.specs.Conditions.{when◌then◌else◌}
 use Rattle.format.specs.Tokens.{is_kind}
 use Rattle.format.specs.Rows.{rows_in}

@@ -1,9 +1,9 @@
 -- `double`: by whether the bits are a NaN's. Assumes nothing.
-use mathlib.Core.Path.{refl, ap}
+use mathlib.Core.Path.{ap}
 use native.Mathlib.Omega.{arith}
 use lib.Ieee.{binary64}
 use Rattle.format.specs.Values as Values
-use Rattle.values.proofs.FloatBits.{is_nan_lem, readable, is_number, same_bits}
+use Rattle.values.proofs.FloatBits.{is_nan_lem, readable, same_bits}
 use Rattle.values.proofs.floats.double.Goals as goal
 
 pub returns-then-bits-gt9218868437227405312-clause-apart : goal.returns-then-bits-gt9218868437227405312-clause-apart

@@ -1,6 +1,6 @@
 -- `single_bits`: infinities and NaNs, subnormals, the rest. Assumes nothing.
 use native.Mathlib.Omega.{arith}
-use Rattle.values.proofs.Halves.{exponent_is, fraction_is, ones, none, some}
+use Rattle.values.proofs.Halves.{ones, none, some}
 use Rattle.values.proofs.half.single_bits.Goals as goal
 
 pub returns-then-exponent-eq31 : goal.returns-then-exponent-eq31

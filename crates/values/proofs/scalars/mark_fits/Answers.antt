@@ -1,7 +1,5 @@
 -- `mark_fits`: a scalar's mark, then its width. Assumes nothing.
 use mathlib.Core.Path.{◌≡◌, sym, ap, ◌∙◌}
-use borrow.Author.Rules.{rules}
-use borrow.Author.Tests.{not-true, not-false}
 use Rattle.format.specs.Marks.{is_scalar}
 use Rattle.values.proofs.Marked.{letter_scalar, letter_is}
 use Rattle.values.proofs.scalars.mark_fits.Goals as goal

@@ -2,11 +2,9 @@
 use Prim.Native.Nat.{◌<◌, ◌^◌}
 use mathlib.Core.Path.{◌∙◌}
 use native.Mathlib.Omega.{arith}
-use borrow.Author.Rules.{rules}
 use mir.Syntax.{w64}
 use mir.Facts.{to_z_pos}
-use Rattle.format.specs.Marks.{width}
-use Rattle.values.proofs.Signs.{signed_weight, below_fits, below_is, lower, positive, negative}
+use Rattle.values.proofs.Signs.{signed_weight, below_is, lower, positive, negative}
 use Rattle.values.proofs.scalars.signed.Goals as goal
 
 pub overflow_mul-half : goal.overflow_mul-half

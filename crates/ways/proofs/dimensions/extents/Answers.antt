@@ -1,7 +1,5 @@
 -- `extents`: by the order. Assumes nothing.
-use mathlib.Core.Path.{ap}
 use native.Mathlib.Omega.{arith}
-use borrow.Author.Rules.{rules}
 use lib.ListN.{length-set}
 use Rattle.ways.proofs.Extents.{plain_extent, shaped_extents}
 use Rattle.ways.proofs.dimensions.extents.Goals as goal

@@ -1,8 +1,6 @@
 -- `along`: the tests in their order. Assumes nothing.
 use mathlib.Core.Path.{sym, ◌∙◌}
 use native.Mathlib.Omega.{arith}
-use borrow.Author.Rules.{rules}
-use borrow.Author.Tests.{not-true, not-false}
 use Rattle.ways.proofs.Along.{along_late, along_unfit, along_down, along_past, along_on}
 use Rattle.ways.proofs.links.along.Goals as goal
 

@@ -1,7 +1,6 @@
 -- `along_child`: the parent, then the rest. Assumes nothing.
 use mathlib.Core.Path.{◌∙◌}
 use native.Mathlib.Omega.{arith}
-use borrow.Author.Rules.{rules}
 use Rattle.ways.proofs.Along.{along_other, along_own}
 use Rattle.ways.proofs.links.along_child.Goals as goal
 

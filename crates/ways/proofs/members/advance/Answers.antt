@@ -1,7 +1,5 @@
 -- `advance`: the member at this row, and the way past it. Assumes nothing.
 use mathlib.Core.Path.{sym, ap, ◌∙◌}
-use native.Mathlib.Omega.{arith}
-use borrow.Author.Rules.{rules}
 use Rattle.format.specs.Answers.{found}
 use Rattle.ways.proofs.Fields.{advance_refused, advance_at}
 use Rattle.ways.proofs.members.advance.Goals as goal

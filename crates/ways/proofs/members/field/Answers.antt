@@ -1,10 +1,8 @@
 -- `field`: one member after another. Assumes nothing.
-use Prim.Native.Nat.{◌-◌, ◌≤◌, ◌<◌}
 use mathlib.Core.Path.{sym}
 use native.Mathlib.Omega.{arith}
-use borrow.Author.Rules.{rules}
-use Rattle.format.specs.Rows.{row_at, rows_in}
-use Rattle.ways.proofs.Fields.{Going, going_start, going_refused, going_leaf, going_inside, going_next, outermost_below}
+use Rattle.format.specs.Rows.{rows_in}
+use Rattle.ways.proofs.Fields.{going_start, going_refused, going_leaf, going_inside, going_next, outermost_below}
 use Rattle.ways.proofs.members.field.Goals as goal
 
 pub loop-number-init : goal.loop-number-init

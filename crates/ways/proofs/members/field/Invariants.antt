@@ -1,10 +1,7 @@
 -- `field`: one member after another. Assumes nothing.
 use Prim.Native.Nat.{◌-◌, ◌≤◌, ◌<◌}
-use mathlib.Core.Path.{sym}
-use native.Mathlib.Omega.{arith}
-use borrow.Author.Rules.{rules}
 use Rattle.format.specs.Rows.{row_at, rows_in}
-use Rattle.ways.proofs.Fields.{Going, going_start, going_refused, going_leaf, going_inside, going_next, outermost_below}
+use Rattle.ways.proofs.Fields.{Going}
 use Rattle.ways.proofs.members.field.Given as goal
 
 abbrev pub invariant-loop-number : goal.invariant-loop-number

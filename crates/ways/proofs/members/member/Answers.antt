@@ -1,6 +1,5 @@
 -- `member`: by whether the container is a schema. Assumes nothing.
 use mathlib.Core.Path.{refl}
-use borrow.Author.Rules.{rules}
 use Rattle.format.specs.Conditions.{when◌then◌else◌}
 use Rattle.ways.specs.Members.{member_from}
 use Rattle.ways.proofs.members.member.Goals as goal

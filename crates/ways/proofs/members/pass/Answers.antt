@@ -1,7 +1,6 @@
 -- `pass`: each way past a member. Assumes nothing.
 use mathlib.Core.Path.{sym, ap, ◌∙◌}
 use native.Mathlib.Omega.{arith}
-use borrow.Author.Rules.{rules}
 use Rattle.format.specs.Answers.{found}
 use Rattle.format.specs.Addresses.{is_leaf_row}
 use Rattle.ways.proofs.Along.{followed}

@@ -1,6 +1,5 @@
 -- `has_names`: an object or a schema record. Assumes nothing.
 use mathlib.Core.Path.{refl}
-use borrow.Author.Rules.{rules}
 use Rattle.format.specs.Addresses.{is_a}
 use Rattle.format.specs.Lookup.{has_names}
 use Rattle.ways.proofs.needs.has_names.Goals as goal

@@ -1,5 +1,4 @@
 -- `is_dimension`: under an integer's mark. Assumes nothing.
-use borrow.Author.Rules.{rules}
 use Rattle.format.specs.Addresses.{is_a, is_dimension}
 use Rattle.format.proofs.MarkFacts.{letter_integer}
 use Rattle.ways.proofs.needs.is_dimension.Goals as goal

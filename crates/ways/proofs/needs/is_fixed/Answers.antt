@@ -1,5 +1,4 @@
 -- `is_fixed`: under a left bracket. Assumes nothing.
-use borrow.Author.Rules.{rules}
 use Rattle.format.specs.Addresses.{is_a, is_fixed}
 use Rattle.ways.proofs.needs.is_fixed.Goals as goal
 

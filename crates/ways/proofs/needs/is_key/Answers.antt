@@ -1,5 +1,4 @@
 -- `is_key`: under the letter `S`. Assumes nothing.
-use borrow.Author.Rules.{rules}
 use Rattle.format.specs.Addresses.{is_a, is_key}
 use Rattle.ways.proofs.needs.is_key.Goals as goal
 

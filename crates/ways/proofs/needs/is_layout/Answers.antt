@@ -1,6 +1,5 @@
 -- `is_layout`: by rows or by columns. Assumes nothing.
 use mathlib.Core.Path.{refl}
-use borrow.Author.Rules.{rules}
 use Rattle.format.specs.Marks.{'[', left_brace}
 use Rattle.ways.proofs.Letters.{either}
 use Rattle.ways.proofs.needs.is_layout.Goals as goal

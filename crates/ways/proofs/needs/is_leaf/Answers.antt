@@ -1,5 +1,4 @@
 -- `is_leaf`: under a schema leaf's mark. Assumes nothing.
-use borrow.Author.Rules.{rules}
 use Rattle.format.specs.Addresses.{is_a, is_leaf_row}
 use Rattle.format.proofs.MarkFacts.{letter_leaf}
 use Rattle.ways.proofs.needs.is_leaf.Goals as goal

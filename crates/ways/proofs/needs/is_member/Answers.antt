@@ -1,7 +1,6 @@
 -- `is_member`: one of the three. Assumes nothing.
 use mathlib.Core.Path.{refl}
 use mathlib.Core.Bool.{or-true}
-use borrow.Author.Rules.{rules}
 use Rattle.format.specs.Addresses.{is_member}
 use Rattle.ways.proofs.needs.is_member.Goals as goal
 

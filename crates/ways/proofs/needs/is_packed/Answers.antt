@@ -1,5 +1,4 @@
 -- `is_packed`: under a type's mark. Assumes nothing.
-use borrow.Author.Rules.{rules}
 use Rattle.format.specs.Addresses.{is_a, is_packed}
 use Rattle.format.proofs.MarkFacts.{letter_type}
 use Rattle.ways.proofs.needs.is_packed.Goals as goal

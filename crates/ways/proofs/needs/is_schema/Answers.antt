@@ -1,5 +1,4 @@
 -- `is_schema`: under a left brace. Assumes nothing.
-use borrow.Author.Rules.{rules}
 use Rattle.format.specs.Addresses.{is_a, is_schema}
 use Rattle.ways.proofs.needs.is_schema.Goals as goal
 

@@ -1,5 +1,4 @@
 -- `is_table`: under either layout's mark. Assumes nothing.
-use borrow.Author.Rules.{rules}
 use Rattle.format.specs.Addresses.{is_a, is_table}
 use Rattle.ways.proofs.needs.is_table.Goals as goal
 

@@ -1,5 +1,4 @@
 -- `part`: none, all that is there, or all that was asked for. Assumes nothing.
-use borrow.Author.Rules.{rules}
 use Rattle.format.proofs.Parts.{part_is}
 use Rattle.writer.proofs.Parts.{part_past, part_to_end}
 use Rattle.writer.proofs.by_row.part.Goals as goal

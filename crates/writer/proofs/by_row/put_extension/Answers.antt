@@ -1,6 +1,5 @@
 -- `put_extension`: the id, and then as a key. Assumes nothing.
 use native.Mathlib.Omega.{arith}
-use borrow.Author.Rules.{rules}
 use Rattle.writer.specs.Pieces.{payload_at}
 use Rattle.pieces.proofs.Putting.{puts_append, id_few}
 use Rattle.writer.proofs.by_row.put_extension.Goals as goal

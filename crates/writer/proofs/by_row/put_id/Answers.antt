@@ -1,5 +1,4 @@
 -- `put_id`: the mark, and as many bytes as it has. Assumes nothing.
-use borrow.Author.Rules.{rules}
 use Rattle.format.specs.Extensions.{id_bytes}
 use Rattle.writer.proofs.by_row.put_id.Goals as goal
 

@@ -1,5 +1,4 @@
 -- `put_middle`: `#`, and the start of the shape. Assumes nothing.
-use borrow.Author.Rules.{rules}
 use Rattle.writer.specs.Pieces.{middle}
 use Rattle.pieces.proofs.Putting.{puts_append}
 use Rattle.writer.proofs.by_row.put_middle.Goals as goal

@@ -1,6 +1,5 @@
 -- `put_payload`: the end of the shape, and the payload. Assumes nothing.
 use native.Mathlib.Omega.{arith}
-use borrow.Author.Rules.{rules}
 use Rattle.pieces.proofs.Putting.{puts_append, end_few}
 use Rattle.writer.proofs.by_row.put_payload.Goals as goal
 

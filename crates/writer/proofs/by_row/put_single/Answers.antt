@@ -1,5 +1,4 @@
 -- `put_single`: by the kind. Assumes nothing.
-use borrow.Author.Rules.{rules}
 use borrow.Author.Tests.{ne_eqb}
 use Rattle.format.specs.Conditions.{when◌then◌else◌}
 use Rattle.writer.specs.Pieces.{payload_at, single}

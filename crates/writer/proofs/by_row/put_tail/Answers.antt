@@ -1,5 +1,4 @@
 -- `put_tail`: by the kind. Assumes nothing.
-use borrow.Author.Rules.{rules}
 use borrow.Author.Tests.{eq-eqb, ne_eqb}
 use Rattle.format.specs.Conditions.{when◌then◌else◌, among}
 use Rattle.writer.specs.Pieces.{payload_at, tail}
