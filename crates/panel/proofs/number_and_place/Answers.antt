@@ -1,6 +1,5 @@
 -- `number_and_place`: a refusal's number and place fit their parts. Assumes nothing.
 use mathlib.Core.Path.{◌∙◌}
-use borrow.Author.Rules.{rules}
 use native.Mathlib.Omega.{arith}
 use Rattle.panel.proofs.Readings.{refused_fits, refused_place, done_place}
 use Rattle.panel.proofs.number_and_place.Goals as goal

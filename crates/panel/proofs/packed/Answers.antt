@@ -1,5 +1,4 @@
 -- `packed`: the parts can be taken out again. Assumes nothing.
-use borrow.Author.Rules.{rules}
 use Rattle.panel.proofs.Parts.{parts_laid}
 use Rattle.panel.proofs.packed.Goals as goal
 

@@ -1,6 +1,5 @@
 -- `rows_needed`: a refusal's number and place, and the rows, fit their parts. Assumes nothing.
 use mathlib.Core.Path.{◌∙◌}
-use borrow.Author.Rules.{rules}
 use native.Mathlib.Omega.{arith}
 use Rattle.panel.proofs.Readings.{refused_fits, refused_rows, rows_fit, done_rows}
 use Rattle.panel.proofs.rows_needed.Goals as goal

@@ -1,6 +1,5 @@
 -- `slot`: as the message, the table and the leaf are found. Assumes nothing.
 use mathlib.Core.Path.{◌∙◌}
-use borrow.Author.Rules.{rules}
 use native.Mathlib.Omega.{arith}
 use Rattle.panel.proofs.Readings.{accepted, read_refused, refused_fits}
 use Rattle.panel.proofs.Slots.{refused_slot, missing_slot, refused_leaf, found_leaf, slot_there, table_here}

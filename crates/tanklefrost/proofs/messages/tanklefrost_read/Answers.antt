@@ -1,6 +1,5 @@
 -- `tanklefrost_read`: as the reader answers by the edition named; else all words are cleared. Assumes nothing.
 use mathlib.Core.Path.{refl, ap, ◌∙◌}
-use borrow.Author.Rules.{rules}
 use Rattle.format.specs.Outcome.{number_of, place_of, or_zero}
 use Rattle.format.specs.Read.{rows_used, words_after}
 use Rattle.structs.specs.Answers.{reading_for}

@@ -1,6 +1,5 @@
 -- `tanklefrost_rewrite`: as the rewriter answers by the edition named; else all words and bytes are cleared. Assumes nothing.
 use mathlib.Core.Path.{refl, ap, ◌∙◌}
-use borrow.Author.Rules.{rules}
 use Rattle.format.specs.Outcome.{number_of, place_of, or_zero}
 use Rattle.format.specs.HouseForm.{bytes_written, output_after, rewrite_words_after}
 use Rattle.structs.specs.Answers.{reading_for}
