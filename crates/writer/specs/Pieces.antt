@@ -11,6 +11,10 @@ use Rattle.format.specs.Extensions.{id_bytes}
 use Rattle.format.specs.HouseForm.{small_integer}
 use Rattle.pieces.specs.Shapes.{shape_start, shape_end}
 
+-- `$`, under a name that a clause can import
+abbrev pub dollar_sign : ℕ
+dollar_sign = '$'
+
 -- the kinds of tokens that are written whole
 unfoldable pub is_single : ℕ → Bool
 is_single = among (kind_number scalar ∷ kind_number text ∷ kind_number high_precision ∷ kind_number key ∷ kind_number leaf ∷ kind_number dimension ∷ [])

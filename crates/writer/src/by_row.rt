@@ -3,11 +3,11 @@ ghost use Rattle.std.specs.Prelude.{◌≡◌, ◌∷◌, ◌++◌, ◌<◌, ◌
 ghost use Rattle.format.specs.Bytes.{bytes};
 ghost use Rattle.format.specs.Extensions.{id_bytes};
 ghost use Rattle.format.specs.HouseForm.{small_integer};
-ghost use Rattle.format.specs.Marks.{'#', '$', '['};
+ghost use Rattle.format.specs.Marks.{'#', '['};
 ghost use Rattle.rows.specs.Row.{row_of};
 ghost use Rattle.pieces.specs.Puts.{Puts};
 ghost use Rattle.pieces.specs.Shapes.{shape_start, shape_end};
-ghost use Rattle.writer.specs.Pieces.{payload_at, single, head, middle, tail};
+ghost use Rattle.writer.specs.Pieces.{dollar_sign, payload_at, single, head, middle, tail};
 
 use crate::kinds::{
     DIMENSION, EXTENSION, KEY, LEAF, PACKED, SCALAR, SCHEMA_RECORD, TABLE, is_list,
@@ -57,7 +57,7 @@ pub fn put_single(message: &[u8], output: &mut [u8], at: usize, r: Row) -> usize
 // What a packed array opens with.
 fn put_packed(output: &mut [u8], at: usize, mark: u8, order: u32, count: u32) -> usize
     requires { at < 2 ^ 58 }
-    ensures { Puts output.old output.new at result ('[' ∷ '$' ∷ mark ∷ '#' ∷ shape_start order count) }
+    ensures { Puts output.old output.new at result ('[' ∷ dollar_sign ∷ mark ∷ '#' ∷ shape_start order count) }
 {
     let a = put(output, at, Mark::ARRAY);
     let b = put(output, a, Mark::TYPE);
