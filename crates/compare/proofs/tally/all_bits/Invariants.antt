@@ -2,8 +2,5 @@
 use Rattle.std.proofs.Common.{◌-◌}
 use Rattle.compare.proofs.tally.all_bits.Given as goal
 
-abbrev pub invariant-loop-row : goal.invariant-loop-row
-invariant-loop-row l = Unit {0}
-
 abbrev pub decreases-loop-row : goal.decreases-loop-row
 decreases-loop-row l = l.used - l.row

@@ -2,8 +2,5 @@
 use Prim.Native.Nat.{◌-◌}
 use Rattle.generate.proofs.tables.field_end.Given as goal
 
-abbrev pub invariant-loop-to : goal.invariant-loop-to
-invariant-loop-to l = Unit {0}
-
 abbrev pub decreases-loop-to : goal.decreases-loop-to
 decreases-loop-to l = l.all - l.to

@@ -1,8 +1,5 @@
 -- `integers::little`: a loop that counts bytes down. Assumes nothing.
 use Rattle.second.proofs.integers.little.Given as goal
 
-abbrev pub invariant-loop-left : goal.invariant-loop-left
-invariant-loop-left l = Unit {0}
-
 abbrev pub decreases-loop-left : goal.decreases-loop-left
 decreases-loop-left l = l.left

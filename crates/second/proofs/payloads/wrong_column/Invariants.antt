@@ -2,8 +2,5 @@
 use Prim.Native.Nat.{◌-◌}
 use Rattle.second.proofs.payloads.wrong_column.Given as goal
 
-abbrev pub invariant-loop-key : goal.invariant-loop-key
-invariant-loop-key l = Unit {0}
-
 abbrev pub decreases-loop-key : goal.decreases-loop-key
 decreases-loop-key l = l.schema.to - l.key

@@ -2,8 +2,5 @@
 use Prim.Native.Nat.{◌-◌}
 use Rattle.second.proofs.payloads.wrong_leaf.Given as goal
 
-abbrev pub invariant-loop-row : goal.invariant-loop-row
-invariant-loop-row l = Unit {0}
-
 abbrev pub decreases-loop-row : goal.decreases-loop-row
 decreases-loop-row l = l.f.to - l.row

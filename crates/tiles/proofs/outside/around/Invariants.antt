@@ -2,8 +2,5 @@
 use Prim.Native.Nat.{◌-◌}
 use Rattle.tiles.proofs.outside.around.Given as goal
 
-abbrev pub invariant-loop-r : goal.invariant-loop-r
-invariant-loop-r l = Unit {0}
-
 abbrev pub decreases-loop-r : goal.decreases-loop-r
 decreases-loop-r l = l.used - l.r

@@ -2,8 +2,5 @@
 use Prim.Native.Nat.{◌-◌}
 use Rattle.tiles.proofs.readings.all.Given as goal
 
-abbrev pub invariant-loop-entry : goal.invariant-loop-entry
-invariant-loop-entry l = Unit {0}
-
 abbrev pub decreases-loop-entry : goal.decreases-loop-entry
 decreases-loop-entry l = l.listed - l.entry

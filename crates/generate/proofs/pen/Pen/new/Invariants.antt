@@ -1,8 +1,5 @@
 -- `pen::Pen::new`: a loop that counts down. Assumes nothing.
 use Rattle.generate.proofs.pen.Pen.new.Given as goal
 
-abbrev pub invariant-loop-left : goal.invariant-loop-left
-invariant-loop-left l = Unit {0}
-
 abbrev pub decreases-loop-left : goal.decreases-loop-left
 decreases-loop-left l = l.left
