@@ -93,7 +93,7 @@ fn input(
     );
 }
 
-// What the system says of a name that is no text.
+// The system's number for the error of bytes that are no text.
 const NO_TEXT: i32 = 84;
 
 // The file of a name, which must be text.
@@ -125,8 +125,7 @@ fn file(
         return;
     }
     match open(rt, &name[..n]) {
-        Ok(opened) => {
-            let mut file = opened;
+        Ok(mut file) => {
             message_of(rt, &name[..n], &mut file, asked, message, rows, house, out);
         }
         Err(why) => {

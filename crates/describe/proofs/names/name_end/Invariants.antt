@@ -1,5 +1,4 @@
 -- `names::name_end`: a loop over bytes. Assumes nothing.
-use borrow.Author.Rules.{rules}
 use Prim.Native.Nat.{◌-◌}
 use lib.ListN.{length}
 use Rattle.describe.proofs.names.name_end.Given as goal

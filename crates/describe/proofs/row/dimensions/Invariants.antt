@@ -1,8 +1,5 @@
 -- `row::dimensions`: a loop over dimensions. Assumes nothing.
-use borrow.Author.Rules.{rules}
 use Prim.Native.Nat.{◌-◌}
-use lib.ListN.{length}
-use mathlib.Core.Path.{◌≡◌}
 use Rattle.describe.proofs.row.dimensions.Given as goal
 
 abbrev pub decreases-loop-j : goal.decreases-loop-j

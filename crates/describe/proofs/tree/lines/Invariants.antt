@@ -1,8 +1,5 @@
 -- `tree::lines`: a loop over rows. Assumes nothing.
-use borrow.Author.Rules.{rules}
 use Prim.Native.Nat.{◌-◌}
-use lib.ListN.{length}
-use mathlib.Core.Path.{◌≡◌}
 use Rattle.describe.proofs.tree.lines.Given as goal
 
 abbrev pub decreases-loop-row : goal.decreases-loop-row

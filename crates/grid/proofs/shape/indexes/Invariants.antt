@@ -1,5 +1,4 @@
 -- `shape::indexes`: a loop over the dimensions. Assumes nothing.
-use borrow.Author.Rules.{rules}
 use Prim.Native.Nat.{◌-◌}
 use lib.ListN.{length}
 use mathlib.Core.Path.{◌≡◌}

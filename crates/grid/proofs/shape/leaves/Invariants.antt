@@ -1,5 +1,4 @@
 -- `shape::leaves`: a loop over the rows. Assumes nothing.
-use borrow.Author.Rules.{rules}
 use Prim.Native.Nat.{◌-◌}
 use Rattle.grid.proofs.shape.leaves.Given as goal
 

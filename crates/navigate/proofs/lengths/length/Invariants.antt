@@ -1,5 +1,4 @@
 -- `lengths::length`: a loop over members. Assumes nothing.
-use borrow.Author.Rules.{rules}
 use Prim.Native.Nat.{◌-◌}
 use Rattle.navigate.proofs.lengths.length.Given as goal
 

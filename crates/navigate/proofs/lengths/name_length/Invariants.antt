@@ -1,5 +1,4 @@
 -- `lengths::name_length`: a loop over bytes. Assumes nothing.
-use borrow.Author.Rules.{rules}
 use Prim.Native.Nat.{◌-◌}
 use Rattle.navigate.proofs.lengths.name_length.Given as goal
 

@@ -1,5 +1,4 @@
 -- `narrowed::dimensions`: a loop over dimensions. Assumes nothing.
-use borrow.Author.Rules.{rules}
 use Prim.Native.Nat.{◌-◌}
 use lib.ListN.{length}
 use mathlib.Core.Path.{◌≡◌}

@@ -1,5 +1,4 @@
 -- `room::cost`: a loop over rows. Assumes nothing.
-use borrow.Author.Rules.{rules}
 use Prim.Native.Nat.{◌-◌}
 use Rattle.navigate.proofs.room.cost.Given as goal
 

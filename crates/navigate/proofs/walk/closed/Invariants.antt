@@ -1,5 +1,4 @@
 -- `walk::closed`: a loop over open rows. Assumes nothing.
-use borrow.Author.Rules.{rules}
 use Rattle.navigate.proofs.walk.closed.Given as goal
 
 abbrev pub decreases-loop-depth : goal.decreases-loop-depth

@@ -1,5 +1,4 @@
 -- `walk::noops_end`: a loop over bytes. Assumes nothing.
-use borrow.Author.Rules.{rules}
 use Prim.Native.Nat.{◌-◌}
 use lib.ListN.{length}
 use Rattle.navigate.proofs.walk.noops_end.Given as goal

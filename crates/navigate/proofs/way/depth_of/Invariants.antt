@@ -1,5 +1,4 @@
 -- `way::depth_of`: a loop over members. Assumes nothing.
-use borrow.Author.Rules.{rules}
 use Rattle.navigate.proofs.way.depth_of.Given as goal
 
 abbrev pub decreases-loop-depth : goal.decreases-loop-depth

@@ -1,5 +1,4 @@
 -- `way::to`: a loop over rows. Assumes nothing.
-use borrow.Author.Rules.{rules}
 use Prim.Native.Nat.{◌-◌}
 use Rattle.navigate.proofs.way.to.Given as goal
 

@@ -1,5 +1,4 @@
 -- `arguments::has_long_number`: a loop over bytes. Assumes nothing.
-use borrow.Author.Rules.{rules}
 use Prim.Native.Nat.{◌-◌}
 use lib.ListN.{length}
 use Rattle.options.proofs.arguments.has_long_number.Given as goal

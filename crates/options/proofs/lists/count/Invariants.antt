@@ -1,5 +1,4 @@
 -- `lists::count`: a loop over bytes. Assumes nothing.
-use borrow.Author.Rules.{rules}
 use Prim.Native.Nat.{◌-◌}
 use lib.ListN.{length}
 use Rattle.options.proofs.lists.count.Given as goal

@@ -1,5 +1,4 @@
 -- `lists::is_list`: a loop over bytes. Assumes nothing.
-use borrow.Author.Rules.{rules}
 use Prim.Native.Nat.{◌-◌}
 use lib.ListN.{length}
 use Rattle.options.proofs.lists.is_list.Given as goal

@@ -1,5 +1,4 @@
 -- `lists::number`: a loop over numbers. Assumes nothing.
-use borrow.Author.Rules.{rules}
 use Prim.Native.Nat.{◌-◌}
 use Rattle.options.proofs.lists.number.Given as goal
 

@@ -1,5 +1,4 @@
 -- `lists::numbers`: a loop over numbers. Assumes nothing.
-use borrow.Author.Rules.{rules}
 use Prim.Native.Nat.{◌-◌}
 use lib.ListN.{length}
 use mathlib.Core.Path.{◌≡◌}

@@ -1,5 +1,5 @@
 -- `dump::cells`: a loop over bytes. Assumes nothing.
-use Rattle.std.proofs.Common.{◌≡◌, ◌-◌, length, rules}
+use Rattle.std.proofs.Common.{◌-◌}
 use Rattle.show.proofs.dump.cells.Given as goal
 
 abbrev pub decreases-loop-i : goal.decreases-loop-i

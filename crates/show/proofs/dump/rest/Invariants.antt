@@ -1,5 +1,5 @@
 -- `dump::rest`: a loop over lines. Assumes nothing.
-use Rattle.std.proofs.Common.{◌≡◌, ◌-◌, length, rules}
+use Rattle.std.proofs.Common.{◌-◌}
 use Rattle.show.proofs.dump.rest.Given as goal
 
 abbrev pub decreases-loop-i : goal.decreases-loop-i

@@ -1,5 +1,4 @@
 -- `floats::digits`: a loop over at most 60 digits. Assumes nothing.
-use Rattle.std.proofs.Common.{◌≡◌, length, rules}
 use Rattle.show.proofs.floats.digits.Given as goal
 
 abbrev pub decreases-loop-left : goal.decreases-loop-left

@@ -1,5 +1,4 @@
 -- `floats::doubled`: a loop while the scale falls. Assumes nothing.
-use Rattle.std.proofs.Common.{rules}
 use Rattle.show.proofs.floats.doubled.Given as goal
 
 abbrev pub decreases-loop-scale : goal.decreases-loop-scale

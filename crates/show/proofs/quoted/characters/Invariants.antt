@@ -1,5 +1,5 @@
 -- `quoted::characters`: a loop over characters. Assumes nothing.
-use Rattle.std.proofs.Common.{◌≡◌, ◌-◌, length, rules}
+use Rattle.std.proofs.Common.{◌-◌}
 use Rattle.show.proofs.quoted.characters.Given as goal
 
 abbrev pub decreases-loop-i : goal.decreases-loop-i

@@ -1,5 +1,5 @@
 -- `quoted::copied`: a loop over bytes. Assumes nothing.
-use Rattle.std.proofs.Common.{◌≡◌, ◌-◌, length, rules}
+use Rattle.std.proofs.Common.{◌-◌}
 use Rattle.show.proofs.quoted.copied.Given as goal
 
 abbrev pub decreases-loop-i : goal.decreases-loop-i

@@ -1,8 +1,5 @@
 -- `one_slot::list`: a loop over indexes. Assumes nothing.
-use borrow.Author.Rules.{rules}
 use Prim.Native.Nat.{◌-◌}
-use lib.ListN.{length}
-use mathlib.Core.Path.{◌≡◌}
 use Rattle.slot_views.proofs.one_slot.list.Given as goal
 
 abbrev pub decreases-loop-j : goal.decreases-loop-j

@@ -1,5 +1,4 @@
 -- `reasons::first_over`: a loop over indexes. Assumes nothing.
-use borrow.Author.Rules.{rules}
 use Prim.Native.Nat.{◌-◌}
 use Rattle.slot_views.proofs.reasons.first_over.Given as goal
 

@@ -1,8 +1,5 @@
 -- `slot_lists::columns`: a loop over fields. Assumes nothing.
-use borrow.Author.Rules.{rules}
 use Prim.Native.Nat.{◌-◌}
-use lib.ListN.{length}
-use mathlib.Core.Path.{◌≡◌}
 use Rattle.slot_views.proofs.slot_lists.columns.Given as goal
 
 abbrev pub decreases-loop-key : goal.decreases-loop-key

@@ -1,8 +1,5 @@
 -- `slot_lists::values`: a loop over elements or records. Assumes nothing.
-use borrow.Author.Rules.{rules}
 use Prim.Native.Nat.{◌-◌}
-use lib.ListN.{length}
-use mathlib.Core.Path.{◌≡◌}
 use Rattle.slot_views.proofs.slot_lists.values.Given as goal
 
 abbrev pub decreases-loop-number : goal.decreases-loop-number
