@@ -5,7 +5,7 @@
 
 mod answers;
 mod buffers;
-mod runs;
+mod message_runs;
 mod show;
 mod tally;
 
@@ -16,7 +16,7 @@ fn main(rt: HostRuntime) -> io::Result<()> {
     let mut message = buffers::message();
     let mut first = buffers::rows();
     let mut other = buffers::rows();
-    runs::all(&rt, &mut message, &mut first, &mut other, &mut counts)?;
-    runs::long(&rt, &mut first, &mut other, &mut counts)?;
+    message_runs::all(&rt, &mut message, &mut first, &mut other, &mut counts)?;
+    message_runs::long(&rt, &mut first, &mut other, &mut counts)?;
     show::summary(&rt, &counts)
 }

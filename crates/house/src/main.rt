@@ -2,7 +2,7 @@
 #![tactic(auto)]
 
 mod buffers;
-mod runs;
+mod message_runs;
 mod show;
 
 use lines::input::read_full;
@@ -13,5 +13,5 @@ fn main(rt: HostRuntime) -> io::Result<()> {
     let n = read_full(&mut rt.stdin(), &mut text)?;
     let mut message = buffers::bytes();
     let mut output = buffers::bytes();
-    runs::all(&rt, &text[..n], &mut message, &mut output)
+    message_runs::all(&rt, &text[..n], &mut message, &mut output)
 }

@@ -2,7 +2,7 @@
 #![tactic(auto)]
 
 mod buffers;
-mod runs;
+mod message_runs;
 mod show;
 
 use lines::input::read_full;
@@ -12,5 +12,5 @@ fn main(rt: HostRuntime) -> io::Result<()> {
     let mut text = buffers::text();
     let n = read_full(&mut rt.stdin(), &mut text)?;
     let mut message = buffers::message();
-    runs::all(&rt, &text[..n], &mut message)
+    message_runs::all(&rt, &text[..n], &mut message)
 }
