@@ -131,7 +131,7 @@ module _ (m : List ℕ) (rows_lent : ℕ) (grammar : Grammar) (f : Forest) (acce
   unfolding all_rows
   round_trip_with rows enough =
       let r = copied_tokens rows enough in
-      record { tokens = r.0; accepted = r.1; meaning = same_rows m (house m f) 0 outermost r.2.same; rows_used_lem = same_size m (house m f) r.2.same }
+      record { tokens = r.0; accepted = r.1; meaning = same_rows m (house m f) 0 outermost r.2.same; rows_used = same_size m (house m f) r.2.same }
 
   -- So it is with the rows that were lent to the message.
   pub round_trip : Rewritten m f rows_lent grammar (house m f)

@@ -13,7 +13,7 @@ pub record Rewritten (m : List ℕ) (f : Forest) (rows_lent : ℕ) (grammar : Gr
   pub tokens : Forest
   pub accepted : read h rows_lent grammar ≡ done tokens
   pub meaning : SameMeaning m (all_rows f) h (all_rows tokens)
-  pub rows_used_lem : size tokens ≡ size f
+  pub rows_used : size tokens ≡ size f
 
 -- a message is in house form if it is accepted and is its own house form
 pub record InHouseForm (h : List ℕ) (rows_lent : ℕ) (grammar : Grammar) : Type 0 where

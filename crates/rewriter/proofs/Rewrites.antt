@@ -30,12 +30,12 @@ use Rattle.rewriter.proofs.Forms.{accepted_formed}
 pub record Accepts (o : Outcome Forest) (used : ℕ) : Type 0 where
   pub tokens : Forest
   pub read : o ≡ done tokens
-  pub rows_used_lem : used ≡ size tokens
+  pub rows_used : used ≡ size tokens
 
 pub accepts : (o : Outcome Forest) (used : ℕ) → done used ≡ rows_used o → Accepts o used
 unfolding rows_used
 accepts (fault n p) used e = let z : ◌≡◌ {A = ℕ} 0 1 = cc in absurd (omega arith)
-accepts (done f) used e = record { tokens = f; read = refl; rows_used_lem = cc }
+accepts (done f) used e = record { tokens = f; read = refl; rows_used = cc }
 
 pub refuses : (o : Outcome Forest) (n p : ℕ) → fault n p ≡ rows_used o → o ≡ fault n p
 unfolding rows_used
@@ -56,8 +56,8 @@ module _ (m ws : List ℕ) (grammar : Grammar) where
         formed = accepted_formed h.1;
         ancestry = outermost;
         rowed = filled_rows f after full;
-        ends = let u = a.rows_used_lem in omega arith;
-        inside = let u = a.rows_used_lem in omega (arith, filled_enough f after full);
+        ends = let u = a.rows_used in omega arith;
+        inside = let u = a.rows_used in omega (arith, filled_enough f after full);
       }
 
   pub room_read : (used : ℕ) → Accepts (read_into m ws grammar) used → Room m 0 0 used
@@ -65,7 +65,7 @@ module _ (m ws : List ℕ) (grammar : Grammar) where
   room_read used a =
       let h = of_done a.tokens (read_finds m (rows_in ws) grammar) a.read in
       let k = rows_few m (rows_in ws) grammar a.tokens a.read in
-      let u = a.rows_used_lem in
+      let u = a.rows_used in
       record { short = h.0; low = omega (arith, h.0, k.0) }
 
   -- ---- the three answers
