@@ -1,26 +1,43 @@
 -- Where an answer is an enum: 01's number and values for each of its cases, as an outcome. Done is number 0.
-use Rattle.std.specs.Prelude.{ℕ, Bool, true, not}
+use Rattle.std.specs.Prelude.{ℕ, ◌≡◌, ◌≢◌, Bool, true, not, Result, Ok, Err}
 use Rattle.std.specs.Float.{binary32, binary64}
 use Rattle.std.specs.Float.Ieee.{to_bits, is_nan, nan_bits}
 use Rattle.format.specs.Outcome.{Outcome, fault, done}
+use Rattle.format.specs.Refusals.{message_too_long, ends_too_early, not_allowed, wrong_content, over_limit, wrong_integer, too_deep, no_row_left, bytes_after, not_there, output_too_long, rows_dont_fit, not_built}
 use Rattle.format.specs.Grammars.{Grammar, old, new}
 use Rattle.format.specs.Tokens as Tokens
+use Rattle.format.specs.Tokens.{kind_number}
 use Rattle.format.specs.Addresses.{Region}
 use Rattle.format.specs.Values as Values
 use Rattle.format.specs.declared.answers.Answer.{Answer}
 use Rattle.format.specs.declared.answers.Answer.TheVariants.{Done, Refused}
-use Rattle.format.specs.declared.answers.Located.{Located}
-use Rattle.format.specs.declared.answers.Located.TheVariants.{At, Refused as NotLocated}
-use Rattle.format.specs.declared.answers.Found.{Found}
-use Rattle.format.specs.declared.answers.Found.TheVariants.{Row, Refused as NotFound}
+use Rattle.format.specs.declared.refusals.Refusal.{Refusal}
+use Rattle.format.specs.declared.refusals.Refusal.TheVariants.{MessageTooLong, EndsTooEarly, NotAllowed, WrongContent, OverLimit, WrongInteger, TooDeep, NoRowLeft, BytesAfter, NotThere, OutputTooLong, RowsDontFit, NotBuilt}
+use Rattle.format.specs.declared.answers.Span.{Span}
 use Rattle.format.specs.declared.answers.Edition.{Edition}
 use Rattle.format.specs.declared.answers.Edition.TheVariants.{Old, New}
 use Rattle.format.specs.declared.answers.Kind.{Kind}
 use Rattle.format.specs.declared.answers.Kind.TheVariants.{Scalar, Text, HighPrecision, Key, Array, Object, Packed, Table, Leaf, SchemaRecord, FixedArray, Dimension, Extension}
+use Rattle.format.specs.declared.answers.UnknownKind.{UnknownKind}
 use Rattle.format.specs.declared.answers.Value.{Value}
 use Rattle.format.specs.declared.answers.Value.TheVariants.{Null, Boolean, Signed, Unsigned, Single, SingleNan, Double, DoubleNan, Char, Byte}
-use Rattle.format.specs.declared.answers.Valued.{Valued}
-use Rattle.format.specs.declared.answers.Valued.TheVariants.{Token as Read, Refused as NotValued}
+use Rattle.format.specs.declared.answers.Token.{Token}
+
+-- a refusal's number
+abbrev pub refusal_number : Refusal → ℕ
+refusal_number MessageTooLong = message_too_long
+refusal_number EndsTooEarly = ends_too_early
+refusal_number NotAllowed = not_allowed
+refusal_number WrongContent = wrong_content
+refusal_number OverLimit = over_limit
+refusal_number WrongInteger = wrong_integer
+refusal_number TooDeep = too_deep
+refusal_number NoRowLeft = no_row_left
+refusal_number BytesAfter = bytes_after
+refusal_number NotThere = not_there
+refusal_number OutputTooLong = output_too_long
+refusal_number RowsDontFit = rows_dont_fit
+refusal_number NotBuilt = not_built
 
 -- the reader's: the rows used, or number and place; the rewriter's: the bytes written, or number and place
 abbrev pub answered : Answer → Outcome ℕ
@@ -28,9 +45,9 @@ answered (Done n) = done n
 answered (Refused n p) = fault n p
 
 -- an address's or a text's: first byte and width, or the number
-abbrev pub located : Located → Outcome (ℕ × ℕ)
-located (At first wide) = done (first, wide)
-located (NotLocated n) = fault n 0
+abbrev pub located : Result Span Refusal → Outcome (ℕ × ℕ)
+located (Ok s) = done (s.first, s.width)
+located (Err r) = fault (refusal_number r) 0
 
 -- what it is compared with: the region without its mark
 unfoldable pub first_and_width : Outcome Region → Outcome (ℕ × ℕ)
@@ -38,9 +55,9 @@ first_and_width (fault n p) = fault n p
 first_and_width (done s) = done (s.first, s.wide)
 
 -- lookup's: the row, or the number
-abbrev pub found : Found → Outcome ℕ
-found (Row n) = done n
-found (NotFound n) = fault n 0
+abbrev pub found : Result ℕ Refusal → Outcome ℕ
+found (Ok n) = done n
+found (Err r) = fault (refusal_number r) 0
 
 -- the grammar that an edition stands for
 abbrev pub grammar_of : Edition → Grammar
@@ -62,6 +79,11 @@ kind_of SchemaRecord = Tokens.schema_record
 kind_of FixedArray = Tokens.fixed_array
 kind_of Dimension = Tokens.dimension
 kind_of Extension = Tokens.extension
+
+-- the kind that has this number; or none has it
+abbrev pub KindNumbered : ℕ → Result Kind UnknownKind → Type 0
+KindNumbered n (Ok k) = kind_number (kind_of k) ≡ n
+KindNumbered n (Err e) = (k : Tokens.Kind) → kind_number k ≢ n
 
 -- the value that a case stands for: singles and doubles by their bits
 abbrev pub value_of : Value → Values.Value
@@ -90,6 +112,6 @@ nan_apart (Char c) = true
 nan_apart (Byte b) = true
 
 -- a value call's: kind and value, or the number
-abbrev pub valued : Valued → Outcome Values.Scalar
-valued (Read t) = done (record { kind = kind_of t.kind; value = value_of t.value })
-valued (NotValued n) = fault n 0
+abbrev pub valued : Result Token Refusal → Outcome Values.Scalar
+valued (Ok t) = done (record { kind = kind_of t.kind; value = value_of t.value })
+valued (Err r) = fault (refusal_number r) 0

@@ -1,7 +1,7 @@
 // The types of the public calls' answers. specs/Answers.antt says which number and values of 01 each case stands for.
 ghost use Rattle.std.specs.Prelude.{◌≡◌};
 ghost use Rattle.format.specs.Tokens.{kind_number};
-ghost use Rattle.format.specs.Answers.{kind_of};
+ghost use Rattle.format.specs.Answers.{kind_of, KindNumbered};
 
 // The reader's and the rewriter's answer: rows used or bytes written; or a refusal's number and place.
 #[derive(Clone, Copy)]
@@ -10,29 +10,22 @@ pub enum Answer {
     Refused(u32, usize),
 }
 
-// Where a slot or a text stands: its first byte and its width; or a refusal's number.
-#[derive(Clone, Copy)]
-pub enum Located {
-    At(usize, usize),
-    Refused(u32),
-}
-
-// The row that a name leads to; or a refusal's number.
-#[derive(Clone, Copy)]
-pub enum Found {
-    Row(usize),
-    Refused(u32),
+// Where a slot or a text stands: its first byte and its width.
+#[derive(Clone, Copy, PartialEq, Eq)]
+pub struct Span {
+    pub first: usize,
+    pub width: usize,
 }
 
 // The edition that a message is read by: the old series sends no extensions, the new one does.
-#[derive(Clone, Copy)]
+#[derive(Clone, Copy, PartialEq, Eq)]
 pub enum Edition {
     Old,
     New,
 }
 
 // A token's kind.
-#[derive(Clone, Copy)]
+#[derive(Clone, Copy, PartialEq, Eq)]
 pub enum Kind {
     Scalar,
     Text,
@@ -72,6 +65,36 @@ impl Kind {
     }
 }
 
+// A number that no kind has.
+#[derive(Clone, Copy, PartialEq, Eq)]
+pub struct UnknownKind(pub u32);
+
+// The kind that has a number.
+impl TryFrom<u32> for Kind {
+    type Error = UnknownKind;
+
+    ghost try_from_gives = { KindNumbered };
+
+    fn try_from(number: u32) -> Result<Self, UnknownKind> {
+        match number {
+            1 => Ok(Kind::Scalar),
+            2 => Ok(Kind::Text),
+            3 => Ok(Kind::HighPrecision),
+            4 => Ok(Kind::Key),
+            5 => Ok(Kind::Array),
+            6 => Ok(Kind::Object),
+            7 => Ok(Kind::Packed),
+            8 => Ok(Kind::Table),
+            9 => Ok(Kind::Leaf),
+            10 => Ok(Kind::SchemaRecord),
+            11 => Ok(Kind::FixedArray),
+            12 => Ok(Kind::Dimension),
+            13 => Ok(Kind::Extension),
+            _ => Err(UnknownKind(number)),
+        }
+    }
+}
+
 // A scalar's value. No f32 or f64 keeps a NaN's bits, so these have cases of their own.
 #[derive(Clone, Copy)]
 pub enum Value {
@@ -92,11 +115,4 @@ pub enum Value {
 pub struct Token {
     pub kind: Kind,
     pub value: Value,
-}
-
-// The value at a row or a slot; or a refusal's number.
-#[derive(Clone, Copy)]
-pub enum Valued {
-    Token(Token),
-    Refused(u32),
 }

@@ -4,3 +4,4 @@
 pub mod answers;
 pub mod limits;
 pub mod marks;
+pub mod refusals;
