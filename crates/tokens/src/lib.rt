@@ -11,3 +11,11 @@ pub struct End {
     pub at: usize,
     pub row: usize,
 }
+
+// Where members end: the place after them, the row after theirs, and how many they are.
+#[derive(Clone, Copy)]
+pub struct Members {
+    pub at: usize,
+    pub row: usize,
+    pub count: usize,
+}
