@@ -8,6 +8,7 @@ use format::answers::Span;
 use format::refusals::Refusal;
 
 // The slot of a packed row and indexes.
+#[tactic(auto, unfolding(format::specs::Answers::first_and_width))]
 pub fn packed_slot(rows: &[u32], size: u32, row: usize, indexes: &[usize]) -> Result<Span, Refusal>
     ensures { located result ≡ first_and_width (packed_slot rows.now size row indexes.now) }
 {
@@ -15,6 +16,7 @@ pub fn packed_slot(rows: &[u32], size: u32, row: usize, indexes: &[usize]) -> Re
 }
 
 // The slot of a table row, a leaf row and indexes.
+#[tactic(auto, unfolding(format::specs::Answers::first_and_width))]
 pub fn table_slot(
     rows: &[u32],
     size: u32,
