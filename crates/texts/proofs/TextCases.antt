@@ -1,19 +1,61 @@
 -- The cases of a text at a row, in the order of their tests, and the part that goes with a place. Assumes nothing.
 use Prim.Native.Nat.{ℕ, ◌+◌, ◌≤◌, ◌<◌}
-use mathlib.Core.Path.{◌≡◌, refl, ap}
-use mathlib.Core.Bool.{true, false}
+use mathlib.Core.Path.{◌≡◌, refl, sym, ap}
+use mathlib.Core.Bool.{true, false, or-false}
 use mathlib.Core.List.{List, []}
 use native.Mathlib.Omega.{arith}
+use lib.Dec.{eqb}
 use lib.ListN.{length}
-use borrow.Author.Tests.{lt-ltb, le-ltb}
+use borrow.Author.Tests.{lt-ltb, le-ltb, ne_eqb}
 use Rattle.format.specs.Outcome.{Outcome, fault, done, ◌>>◌, guard}
 use Rattle.format.specs.Refusals.{rows_dont_fit}
 use Rattle.format.specs.Rows.{Row, row_at, rows_in}
 use Rattle.format.specs.Bytes.{bytes, within}
 use Rattle.format.specs.Addresses.{Region}
 use Rattle.format.specs.TextAnswers.{is_text_row, text_at_row, part}
-use Rattle.format.specs.Answers.{first_and_width}
+use Rattle.format.specs.Tokens as Tokens
+use Rattle.format.specs.Tokens.{kind_number}
+use Rattle.format.specs.Answers.{kind_of, first_and_width}
+use Rattle.format.specs.declared.answers.Kind.{Kind}
+use Rattle.format.specs.declared.answers.Kind.TheVariants.{Scalar, Text, HighPrecision, Key, Array, Object, Packed, Table, Leaf, SchemaRecord, FixedArray, Dimension, Extension}
 use Rattle.texts.specs.Memory.{pointer}
+
+-- ---- a text's kind and mark
+
+-- a number that no kind has
+pub no_kind : (r : Row) → ((k : Tokens.Kind) → kind_number k ≡ r.kind → ⊥) → false ≡ is_text_row r
+unfolding is_text_row
+no_kind r n = simp (ne_eqb r.kind 2 (λ e. n Tokens.text (sym e)), ne_eqb r.kind 3 (λ e. n Tokens.high_precision (sym e)), ne_eqb r.kind 4 (λ e. n Tokens.key (sym e)))
+
+-- a text's, and the marks of the kinds of text
+module _ (r : Row) where
+  pub of_text : kind_number Tokens.text ≡ r.kind → eqb r.mark 83 ≡ is_text_row r
+  unfolding is_text_row
+  of_text e = rw (← e, or-false (eqb r.mark 83))
+
+  pub of_high_precision : kind_number Tokens.high_precision ≡ r.kind → eqb r.mark 72 ≡ is_text_row r
+  unfolding is_text_row
+  of_high_precision e = rw (← e, or-false (eqb r.mark 72))
+
+  pub of_key : kind_number Tokens.key ≡ r.kind → eqb r.mark 83 ≡ is_text_row r
+  unfolding is_text_row
+  of_key e = rw (← e)
+
+  pub of_other : (k : Kind) → kind_number (kind_of k) ≡ r.kind → (k ≡ Text → ⊥) → (k ≡ HighPrecision → ⊥) → (k ≡ Key → ⊥) → false ≡ is_text_row r
+  unfolding is_text_row
+  of_other Text e n o p = absurd (n refl)
+  of_other HighPrecision e n o p = absurd (o refl)
+  of_other Key e n o p = absurd (p refl)
+  of_other Scalar e n o p = rw (← e) refl
+  of_other Array e n o p = rw (← e) refl
+  of_other Object e n o p = rw (← e) refl
+  of_other Packed e n o p = rw (← e) refl
+  of_other Table e n o p = rw (← e) refl
+  of_other Leaf e n o p = rw (← e) refl
+  of_other SchemaRecord e n o p = rw (← e) refl
+  of_other FixedArray e n o p = rw (← e) refl
+  of_other Dimension e n o p = rw (← e) refl
+  of_other Extension e n o p = rw (← e) refl
 
 module _ (m ws : List ℕ) (row : ℕ) where
   pub no_row : rows_in ws ≤ row → fault rows_dont_fit 0 ≡ first_and_width (text_at_row m ws row)

@@ -6,8 +6,9 @@ ghost use Rattle.rows.specs.Row.{row_of};
 ghost use Rattle.texts.specs.Memory.{Inside, pointer};
 
 use crate::parts::part_at;
-use format::answers::Located;
+use format::answers::{Kind, Span};
 use format::marks::Mark;
+use format::refusals::Refusal;
 use rows::{Row, count, load};
 use scan::bytes::within;
 
@@ -15,33 +16,35 @@ use scan::bytes::within;
 fn is_text_row(r: Row) -> bool
     ensures { result ≡ is_text_row (row_of r) }
 {
-    let kind = r.kind;
+    let Ok(kind) = Kind::try_from(r.kind) else {
+        return false;
+    };
     match kind {
-        2 => r.mark == Mark::TEXT as u32,
-        3 => r.mark == Mark::HIGH_PRECISION as u32,
-        4 => r.mark == Mark::TEXT as u32,
+        Kind::Text => r.mark == Mark::TEXT as u32,
+        Kind::HighPrecision => r.mark == Mark::HIGH_PRECISION as u32,
+        Kind::Key => r.mark == Mark::TEXT as u32,
         _ => false,
     }
 }
 
 // The first byte and the width of the text at a row of kinds 2 to 4, in any words; or 12.
-pub fn number_at_row(message: &[u8], rows: &[u32], row: usize) -> Located
+pub fn number_at_row(message: &[u8], rows: &[u32], row: usize) -> Result<Span, Refusal>
     ensures is { located result ≡ first_and_width (text_at_row message.now rows.now row) }
     ensures bounds { Inside result (length message.now) }
 {
     if count(rows) <= row {
-        return Located::Refused(12);
+        return Err(Refusal::RowsDontFit);
     }
     let r = load(rows, row);
     if !is_text_row(r) {
-        return Located::Refused(12);
+        return Err(Refusal::RowsDontFit);
     }
     let first = r.payload as usize;
-    let wide = r.extent as usize;
-    if !within(message, first, wide) {
-        return Located::Refused(12);
+    let width = r.extent as usize;
+    if !within(message, first, width) {
+        return Err(Refusal::RowsDontFit);
     }
-    Located::At(first, wide)
+    Ok(Span { first, width })
 }
 
 // The text at a row of kinds 2 to 4, in any words: the part of the message itself, empty on refusal.

@@ -6,19 +6,20 @@ ghost use Rattle.format.specs.TextAnswers.{part};
 ghost use Rattle.format.specs.Answers.{located, first_and_width};
 ghost use Rattle.texts.specs.Memory.{Inside, pointer};
 
-use format::answers::Located;
+use format::answers::Span;
+use format::refusals::Refusal;
 
 // The part of the message itself at a place inside it, empty on refusal.
-pub fn part_at<'a>(message: &'a [u8], place: Located) -> &'a [u8]
+pub fn part_at<'a>(message: &'a [u8], place: Result<Span, Refusal>) -> &'a [u8]
     requires { Inside place (length message.now) }
     ensures is { (o : Outcome Region) → located place ≡ first_and_width o → result.now ≡ part message.now o }
     ensures here { (o : Outcome Region) → located place ≡ first_and_width o → result.ref_ptr ≡ pointer message.entry.ref_ptr o }
 {
     match place {
-        Located::Refused(_) => &message[..0],
-        Located::At(first, wide) => {
-            let end = first + wide;
-            &message[first..end]
+        Err(_) => &message[..0],
+        Ok(span) => {
+            let end = span.first + span.width;
+            &message[span.first..end]
         }
     }
 }

@@ -3,9 +3,11 @@ use Prim.Native.Nat.{ℕ, zero, suc, ◌+◌, ◌-◌, ◌*◌, ◌/◌, ◌%◌
 use mathlib.Core.Path.{◌≡◌, refl, sym, ap, ap₂, ◌∙◌}
 use mathlib.Core.Bool.{false, cond, not, ◌&&◌}
 use native.Mathlib.Omega.{arith}
-use native.Mathlib.Nat.{mul_assoc, mul_right_comm, pow-suc, lt_of_not-le}
+use native.Mathlib.Nat.{mul_assoc, mul_comm, mul_right_comm, mul-le-mul_left, mul-lt-mul_of_pos_left, pow-suc, lt_of_not-le, pow-le-pow_right}
 use lib.Dec.{eqb}
 use lib.Pow.{pow-add}
+use lib.Count.{count_leading_zeros}
+use Rattle.std.proofs.lemmas.Nat.{leading_top, pow_pos}
 use lib.Bits.{bit_and, bit_or, and_mask, and_high, or_shifted}
 use lib.Ieee.{odd, binary32, to_bits}
 use lib.Ieee.Exact.{odd_sign}
@@ -118,71 +120,82 @@ module _ (h : ℕ) (half : h < 2 ^ 16) where
 
 -- ---- subnormals: the digits move up, and the exponent falls
 
--- the test of the digit in front, for a number of at most eleven
-front : (d : ℕ) → d < 2 ^ 11 → bit_and d 1024 ≡ d / 1024 * 1024
-front d h = and_high d 1 10 ∙ omega arith
-
--- so far: the digits with their exponent are the fraction with 113
-pub record Moved (fraction digits exponent : ℕ) : Type 0 where
-  pub some : 0 < fraction
-  pub few : digits < 2 ^ 11
-  pub low : exponent ≤ 113
-  pub is : digits * 2 ^ exponent ≡ fraction * 2 ^ 113
+-- the digits with their exponent are the fraction with 113, a one in front of ten digits
+record Moved (fraction digits exponent : ℕ) : Type 0 where
+  full : 2 ^ 10 ≤ digits
+  few : digits < 2 ^ 11
+  low : exponent ≤ 113
+  over : 0 < exponent
+  is : digits * 2 ^ exponent ≡ fraction * 2 ^ 113
 
 module _ (r d e : ℕ) (m : Moved r d e) where
-  pub short : bit_and d 1024 ≡ 0 → d < 2 ^ 10
-  short z = omega (arith, front d m.few)
-
-  -- the exponent stays over 0
-  pub over : 0 < e
-  over = go e m.is
+  -- the digit in front is left out, and the others stand behind the exponent
+  code : bit_or ((e * 2 ^ 23) % 2 ^ 32) ((bit_and d 1023 * 2 ^ 13) % 2 ^ 32) ≡ e * 2 ^ 23 + d % 1024 * 2 ^ 13
+  code = ap₂ bit_or first second ∙ or_shifted e 23 (d % 1024 * 2 ^ 13) (omega arith)
     where
-      go : (e : ℕ) → d * 2 ^ e ≡ r * 2 ^ 113 → 0 < e
-      go zero is = absurd (omega (arith, m.some, m.few))
-      go (suc e) is = omega arith
+      first : (e * 2 ^ 23) % 2 ^ 32 ≡ e * 2 ^ 23
+      first = omega (arith, m.low)
 
-  -- one place up
-  pub up : bit_and d 1024 ≡ 0 → Moved r ((d * 2) % 2 ^ 32) (e - 1)
-  up z = record { some = m.some; few = omega (arith, short z); low = omega (arith, m.low); is = rw whole (go e over m.is) }
+      second : (bit_and d 1023 * 2 ^ 13) % 2 ^ 32 ≡ d % 1024 * 2 ^ 13
+      second = ap (λ x. (x * 2 ^ 13) % 2 ^ 32) (and_mask d 10) ∙ omega arith
+
+  small : bit_or ((e * 2 ^ 23) % 2 ^ 32) ((bit_and d 1023 * 2 ^ 13) % 2 ^ 32) < 2 ^ 31
+  small = rw code (omega (arith, m.low))
+
+  ended : bit_or ((e * 2 ^ 23) % 2 ^ 32) ((bit_and d 1023 * 2 ^ 13) % 2 ^ 32) ≡ to_bits binary32 (half_value false 0 r)
+  unfolding half_value
+  ended =
+      code
+      ∙ sym
+      (single_of (odd 11 false r 0 24) false (r * 2 ^ 0) (d * 2 ^ 13) (e - 1) (odd_sign 11 false r 0 24) moved (omega (arith, m.full)) (omega (arith, m.few))
+      ∙ omega (arith, m.full, m.over, m.few))
     where
-      whole : (d * 2) % 2 ^ 32 ≡ d * 2
-      whole = omega (arith, short z)
+      moved : d * 2 ^ 13 * 2 ^ (e - 1) ≡ r * 2 ^ 0 * 2 ^ 125
+      moved = go e m.over m.is
+        where
+          go : (e : ℕ) → 0 < e → d * 2 ^ e ≡ r * 2 ^ 113 → d * 2 ^ 13 * 2 ^ (e - 1) ≡ r * 2 ^ 0 * 2 ^ 125
+          go zero p is = absurd (omega arith)
+          go (suc e) p is =
+              let q : suc e - 1 ≡ e = omega arith in
+              let i : d * (2 ^ e * 2) ≡ r * 2 ^ 113 = rw (pow-suc 2 e) at is in
+              rw q (omega (arith, mul_right_comm d (2 ^ 13) (2 ^ e), mul_assoc d (2 ^ e) 2))
 
-      go : (e : ℕ) → 0 < e → d * 2 ^ e ≡ r * 2 ^ 113 → d * 2 * 2 ^ (e - 1) ≡ r * 2 ^ 113
-      go zero p is = absurd (omega arith)
-      go (suc e) p is = let q : suc e - 1 ≡ e = omega arith in rw q (mul_right_comm d 2 (2 ^ e) ∙ mul_assoc d (2 ^ e) 2 ∙ rw (← pow-suc 2 e) is)
+-- a fraction moved up by as many places as ten lack to the digits below its first one
+raised : (r s j p : ℕ) → s + j ≡ 10 → 2 ^ j ≤ r → r < 2 ^ suc j → p ≡ r * 2 ^ s → Moved r (p % 2 ^ 32) (113 - s)
+raised r s j p e low high is =
+    let t : 2 ^ s * 2 ^ j ≡ 2 ^ 10 = sym (pow-add 2 s j) ∙ ap (λ x. 2 ^ x) e in
+    let k : s + suc j ≡ 11 = omega arith in
+    let u : 2 ^ s * 2 ^ suc j ≡ 2 ^ 11 = sym (pow-add 2 s (suc j)) ∙ ap (λ x. 2 ^ x) k in
+    let n : s + (113 - s) ≡ 113 = omega arith in
+    let c : p ≡ 2 ^ s * r = is ∙ mul_comm r (2 ^ s) in
+    let full : 2 ^ 10 ≤ p = rw (c, ← t) (mul-le-mul_left (2 ^ s) low) in
+    let few : p < 2 ^ 11 = rw (c, ← u) (mul-lt-mul_of_pos_left high (pow_pos s)) in
+    let whole : p % 2 ^ 32 ≡ p = omega (arith, few) in
+    record {
+      full = rw whole full;
+      few = rw whole few;
+      low = omega arith;
+      over = omega arith;
+      is = ap (λ x. x * 2 ^ (113 - s)) (whole ∙ is) ∙ mul_assoc r (2 ^ s) (2 ^ (113 - s)) ∙ ap (λ x. r * x) (sym (pow-add 2 s (113 - s)) ∙ ap (λ x. 2 ^ x) n);
+    }
 
-  module _ (z : bit_and d 1024 ≡ 0 → ⊥) where
-    full : 2 ^ 10 ≤ d
-    full = lt_of_not-le (λ l. z (front d m.few ∙ omega arith))
+-- a fraction, and how many zeros stand in front of it in 32 digits
+module _ (r z : ℕ) (some : 0 < r) (short : r < 2 ^ 10) (zeros : z ≡ count_leading_zeros 32 r) where
+  -- its first digit
+  first_digit : (j : ℕ) × (z + suc j ≡ 32) × (2 ^ j ≤ r) × (r < 2 ^ suc j)
+  first_digit = rw zeros (leading_top 32 r some (omega arith))
 
-    -- the digit in front is left out, and the others stand behind the exponent
-    code : bit_or ((e * 2 ^ 23) % 2 ^ 32) ((bit_and d 1023 * 2 ^ 13) % 2 ^ 32) ≡ e * 2 ^ 23 + d % 1024 * 2 ^ 13
-    code = ap₂ bit_or first second ∙ or_shifted e 23 (d % 1024 * 2 ^ 13) (omega arith)
-      where
-        first : (e * 2 ^ 23) % 2 ^ 32 ≡ e * 2 ^ 23
-        first = omega (arith, m.low)
+  few_below : first_digit.0 < 10
+  few_below = lt_of_not-le (λ l. let p : 2 ^ 10 ≤ 2 ^ first_digit.0 = pow-le-pow_right {n = 2} (omega arith) l in omega (arith, first_digit.2))
 
-        second : (bit_and d 1023 * 2 ^ 13) % 2 ^ 32 ≡ d % 1024 * 2 ^ 13
-        second = ap (λ x. (x * 2 ^ 13) % 2 ^ 32) (and_mask d 10) ∙ omega arith
+  pub many_zeros : 21 ≤ z
+  many_zeros = omega (arith, first_digit.1, few_below)
 
-    pub small : bit_or ((e * 2 ^ 23) % 2 ^ 32) ((bit_and d 1023 * 2 ^ 13) % 2 ^ 32) < 2 ^ 31
-    small = rw code (omega (arith, m.low))
+  moved : Moved r ((r * 2 ^ (z - 21)) % 2 ^ 32) (113 - (z - 21))
+  moved = raised r (z - 21) first_digit.0 (r * 2 ^ (z - 21)) (omega (arith, first_digit.1, few_below)) first_digit.2 first_digit.3 refl
 
-    pub ended : bit_or ((e * 2 ^ 23) % 2 ^ 32) ((bit_and d 1023 * 2 ^ 13) % 2 ^ 32) ≡ to_bits binary32 (half_value false 0 r)
-    unfolding half_value
-    ended =
-        code
-        ∙ sym
-        (single_of (odd 11 false r 0 24) false (r * 2 ^ 0) (d * 2 ^ 13) (e - 1) (odd_sign 11 false r 0 24) moved (omega (arith, full)) (omega (arith, m.few))
-        ∙ omega (arith, full, over, m.few))
-      where
-        moved : d * 2 ^ 13 * 2 ^ (e - 1) ≡ r * 2 ^ 0 * 2 ^ 125
-        moved = go e over m.is
-          where
-            go : (e : ℕ) → 0 < e → d * 2 ^ e ≡ r * 2 ^ 113 → d * 2 ^ 13 * 2 ^ (e - 1) ≡ r * 2 ^ 0 * 2 ^ 125
-            go zero p is = absurd (omega arith)
-            go (suc e) p is =
-                let q : suc e - 1 ≡ e = omega arith in
-                let i : d * (2 ^ e * 2) ≡ r * 2 ^ 113 = rw (pow-suc 2 e) at is in
-                rw q (omega (arith, mul_right_comm d (2 ^ 13) (2 ^ e), mul_assoc d (2 ^ e) 2))
+  pub subnormal_small : bit_or (((113 - (z - 21)) * 2 ^ 23) % 2 ^ 32) ((bit_and ((r * 2 ^ (z - 21)) % 2 ^ 32) 1023 * 2 ^ 13) % 2 ^ 32) < 2 ^ 31
+  subnormal_small = small r _ _ moved
+
+  pub subnormal_is : bit_or (((113 - (z - 21)) * 2 ^ 23) % 2 ^ 32) ((bit_and ((r * 2 ^ (z - 21)) % 2 ^ 32) 1023 * 2 ^ 13) % 2 ^ 32) ≡ to_bits binary32 (half_value false 0 r)
+  subnormal_is = ended r _ _ moved

@@ -5,7 +5,7 @@ ghost use Rattle.std.specs.Float.Ieee.{to_bits};
 ghost use Rattle.format.specs.Half.{half_value, single};
 
 // The single with the value of a half whose exponent is 0, without its sign: its fraction times 2 ^ -24. The fraction moves up until
-// a one stands in front of its ten digits, and the exponent falls with each place.
+// a one stands in front of its ten digits, and the exponent falls by as many places.
 fn subnormal(fraction: u32) -> u32
     requires { fraction < 2 ^ 10 }
     ensures is { result ≡ to_bits binary32 (half_value false 0 fraction) }
@@ -14,12 +14,9 @@ fn subnormal(fraction: u32) -> u32
     if fraction == 0 {
         return 0;
     }
-    let mut digits = fraction;
-    let mut exponent = 113u32;
-    while digits & 0x400 == 0 {
-        digits <<= 1;
-        exponent -= 1;
-    }
+    let places = fraction.leading_zeros() - 21;
+    let digits = fraction << places;
+    let exponent = 113 - places;
     exponent << 23 | (digits & 0x3FF) << 13
 }
 

@@ -10,8 +10,9 @@ ghost use Rattle.values.specs.Answers.{NansApart};
 use crate::floats::{double, single};
 use crate::half::single_bits;
 use content::is_content;
-use format::answers::{Kind, Token, Value, Valued};
+use format::answers::{Kind, Token, Value};
 use format::marks::Mark;
+use format::refusals::Refusal;
 use scan::bytes::within;
 use scan::integers::little_endian;
 
@@ -94,24 +95,29 @@ fn mark_fits(kind: Kind, mark: u32, wide: usize) -> bool
 }
 
 // The scalar of this kind under a mark, whose bytes are so wide and start at `first`. Any numbers may be asked for.
-pub fn scalar_at(message: &[u8], kind: Kind, mark: u32, first: usize, wide: usize) -> Valued
+pub fn scalar_at(
+    message: &[u8],
+    kind: Kind,
+    mark: u32,
+    first: usize,
+    wide: usize,
+) -> Result<Token, Refusal>
     ensures is { valued result ≡ scalar_at message.now (kind_of kind) (due_of (kind_of kind) mark) (record { mark = mark; first = first; wide = wide }) }
     ensures apart { NansApart result }
 {
     if !mark_fits(kind, mark, wide) {
-        return Valued::Refused(12);
+        return Err(Refusal::RowsDontFit);
     }
     if !within(message, first, wide) {
-        return Valued::Refused(12);
+        return Err(Refusal::RowsDontFit);
     }
     let letter = Mark::of(mark);
     let bytes = &message[first..first + wide];
     if !is_content(letter.0, bytes) {
-        return Valued::Refused(12);
+        return Err(Refusal::RowsDontFit);
     }
-    let value = value_of(letter, bytes);
-    Valued::Token(Token {
-        kind: kind,
-        value: value,
+    Ok(Token {
+        kind,
+        value: value_of(letter, bytes),
     })
 }

@@ -13,12 +13,12 @@ unfolding due is_kind when◌then◌else◌
 returns-then-count-row-clause-is c =
     no_row _ _ _ (rw (← c.count.ensures) c.if-count-row.true)
 
-pub returns-then-r-ne1-clause-is : goal.returns-then-r-ne1-clause-is
+pub returns-then-r-number-clause-is : goal.returns-then-r-number-clause-is
 unfolding due is_kind when◌then◌else◌
-returns-then-r-ne1-clause-is c =
-    let there : c.args.row < rows_in c.args.rows.now = rw (← c.count.ensures) c.if-count-row.false in other_kind _ _ _ (there) _ (c.load-r.ensures.there (there)) c.if-r-ne1.true
+returns-then-r-number-clause-is c =
+    let there : c.args.row < rows_in c.args.rows.now = rw (← c.count.ensures) c.if-count-row.false in other_kind _ _ _ (there) _ (c.load-r.ensures.there (there)) (rw c.number.ensures at c.if-r-number.true)
 
 pub returns-clause-is : goal.returns-clause-is
 unfolding due is_kind when◌then◌else◌
 returns-clause-is c =
-    let there : c.args.row < rows_in c.args.rows.now = rw (← c.count.ensures) c.if-count-row.false in c.scalar_at.ensures.is ∙ scalar-row _ _ _ (there) _ (c.load-r.ensures.there (there)) c.if-r-ne1.false
+    let there : c.args.row < rows_in c.args.rows.now = rw (← c.count.ensures) c.if-count-row.false in c.scalar_at.ensures.is ∙ scalar-row _ _ _ (there) _ (c.load-r.ensures.there (there)) (rw c.number.ensures at c.if-r-number.false)

@@ -1,8 +1,9 @@
--- `subnormal`: a loop that moves the digits up, a place a turn. Assumes nothing.
+-- `subnormal`: the digits move up at once by the places that are missing. Assumes nothing.
 use mathlib.Core.Path.{refl}
+use native.Mathlib.Omega.{arith}
 use lib.Ieee.{odd, to_bits}
 use Rattle.format.specs.Half.{half_value}
-use Rattle.values.proofs.Halves.{up, ended}
+use Rattle.values.proofs.Halves.{many_zeros, subnormal_is}
 use Rattle.values.proofs.half.subnormal.Goals as goal
 
 pub returns-then-fraction-eq0-clause-is : goal.returns-then-fraction-eq0-clause-is
@@ -10,10 +11,10 @@ unfolding half_value odd to_bits
 returns-then-fraction-eq0-clause-is c =
     rw c.if-fraction-eq0.true refl
 
-pub loop-digits-preserved : goal.loop-digits-preserved
-loop-digits-preserved c =
-    up _ _ _ c.loop-digits.invariant c.loop-digits-test.true
+pub overflow_sub-places : goal.overflow_sub-places
+overflow_sub-places c =
+    many_zeros c.args.fraction _ (omega arith) c.requires refl
 
 pub returns-clause-is : goal.returns-clause-is
 returns-clause-is c =
-    let m = c.loop-digits.invariant in ended _ _ _ m c.loop-digits-test.false
+    subnormal_is c.args.fraction _ (omega arith) c.requires refl

@@ -44,8 +44,8 @@ returns-then-not-is_content-clause-is c =
     let letter : c.of-letter.result.0 ≡ c.args.mark = c.of-letter.ensures ∙ letter_is _ (marked _ _ _ fitting).0 in
     let tested : is_content c.args.mark (bytes c.args.message.now c.args.first c.args.wide) ≡ c.is_content.result = sym (c.is_content.ensures ∙ ap₂ is_content (letter) (part_is _ _ _)) in no_content _ _ _ _ (fitting) (there) (tested ∙ c.if-not-is_content.true)
 
-pub value_of-value-requires : goal.value_of-value-requires
-value_of-value-requires c =
+pub value_of-requires : goal.value_of-requires
+value_of-requires c =
     let fitting : (is_scalar c.args.mark && eqb c.args.wide (due (kind_of c.args.kind) c.args.mark)) ≡ true = sym c.mark_fits.ensures ∙ c.if-not-mark_fits.false in
     let letter : c.of-letter.result.0 ≡ c.args.mark = c.of-letter.ensures ∙ letter_is _ (marked _ _ _ fitting).0 in
     let there : within (length c.args.message.now) c.args.first c.args.wide ≡ true = sym c.within.ensures ∙ c.if-not-within.false in
@@ -59,4 +59,4 @@ returns-clause-is c =
     let there : within (length c.args.message.now) c.args.first c.args.wide ≡ true = sym c.within.ensures ∙ c.if-not-within.false in
     let letter : c.of-letter.result.0 ≡ c.args.mark = c.of-letter.ensures ∙ letter_is _ (marked _ _ _ fitting).0 in
     let tested : is_content c.args.mark (bytes c.args.message.now c.args.first c.args.wide) ≡ c.is_content.result = sym (c.is_content.ensures ∙ ap₂ is_content (letter) (part_is _ _ _)) in
-    let v = c.value_of-value.ensures in ap (λ x. done (record { kind = kind_of c.args.kind; value = x })) (v.is ∙ ap₂ value_of (letter) (part_is _ _ _)) ∙ read _ _ _ _ (fitting) (there) (tested ∙ c.if-not-is_content.false)
+    let v = c.value_of.ensures in ap (λ x. done (record { kind = kind_of c.args.kind; value = x })) (v.is ∙ ap₂ value_of (letter) (part_is _ _ _)) ∙ read _ _ _ _ (fitting) (there) (tested ∙ c.if-not-is_content.false)
