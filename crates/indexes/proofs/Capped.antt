@@ -1,20 +1,13 @@
 -- Sums and products of capped numbers. Assumes nothing.
-use Prim.Native.Nat.{ℕ, zero, suc, ◌+◌, ◌*◌, ◌/◌, ◌≤◌, ◌<◌}
-use mathlib.Core.Path.{◌≡◌, refl, sym}
+use Prim.Native.Nat.{ℕ, zero, suc, ◌+◌, ◌*◌, ◌≤◌, ◌<◌}
+use mathlib.Core.Path.{◌≡◌, refl}
 use mathlib.Core.Bool.{Bool, true, false}
 use native.Mathlib.Omega.{arith}
-use native.Mathlib.Nat.{min-eq_left, min-eq_right, mul-suc, div-lt_iff_lt-mul, le-div_iff_mul-le}
+use native.Mathlib.Nat.{min-eq_left, min-eq_right, mul-suc}
 use lib.Dec.{leb}
 use borrow.Author.Tests.{leb-true, leb-false}
 use Rattle.format.proofs.Products.{stopped_factor}
 use Rattle.indexes.specs.Sums.{most, capped}
-
--- a product that does not fit, and one that does
-pub over : (a b : ℕ) → 0 < b → most / b < a → most ≡ capped (a * b)
-over a b h q = let k : most < a * b = (div-lt_iff_lt-mul h).0 q in sym (min-eq_right (omega arith))
-
-pub fits : (a b : ℕ) → 0 < b → a ≤ most / b → a * b ≤ most
-fits a b h q = (le-div_iff_mul-le h).0 q
 
 less : (n : ℕ) → most < n → most ≤ n
 less n h = omega arith

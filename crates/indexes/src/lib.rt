@@ -7,8 +7,6 @@ ghost use Rattle.std.specs.Prelude.{◌≡◌, true, ◌+◌, ◌*◌};
 ghost use Rattle.format.specs.Indexes.{in_range, last_number, first_number, number_in};
 ghost use Rattle.indexes.specs.Sums.{capped};
 
-use crate::sums::{plus, times};
-
 // One index for each extent, below it.
 pub fn in_range(extents: &[u32], indexes: &[usize]) -> bool
     ensures { result ≡ in_range extents.now indexes.now }
@@ -16,12 +14,10 @@ pub fn in_range(extents: &[u32], indexes: &[usize]) -> bool
     if extents.len() != indexes.len() {
         return false;
     }
-    let mut k = 0;
-    while k < extents.len() {
-        if extents[k] as usize <= indexes[k] {
+    for (extent, index) in extents.iter().zip(indexes) {
+        if *extent as usize <= *index {
             return false;
         }
-        k += 1;
     }
     true
 }
@@ -30,7 +26,7 @@ pub fn in_range(extents: &[u32], indexes: &[usize]) -> bool
 fn longer(number: usize, extent: u32, index: usize) -> usize
     ensures { result ≡ capped (capped (number * extent) + index) }
 {
-    plus(times(number, extent as usize), index)
+    number.saturating_mul(extent as usize).saturating_add(index)
 }
 
 // The number of indexes in range, the last index moving fastest.
@@ -39,10 +35,8 @@ fn last_fastest(extents: &[u32], indexes: &[usize]) -> usize
     ensures { result ≡ capped (last_number extents.now indexes.now) }
 {
     let mut number = 0;
-    let mut k = 0;
-    while k < extents.len() {
-        number = longer(number, extents[k], indexes[k]);
-        k += 1;
+    for (extent, index) in extents.iter().zip(indexes) {
+        number = longer(number, *extent, *index);
     }
     number
 }
@@ -53,9 +47,7 @@ fn first_fastest(extents: &[u32], indexes: &[usize]) -> usize
     ensures { result ≡ capped (first_number extents.now indexes.now) }
 {
     let mut number = 0;
-    let mut k = extents.len();
-    while 0 < k {
-        k -= 1;
+    for k in (0..extents.len()).rev() {
         number = longer(number, extents[k], indexes[k]);
     }
     number

@@ -1,5 +1,5 @@
 -- The editions as the C calls number them.
-use Rattle.std.specs.Prelude.{ℕ, List, eqb}
+use Rattle.std.specs.Prelude.{ℕ, List, eqb, Option, Some, None}
 use Rattle.format.specs.Conditions.{when◌then◌else◌}
 use Rattle.format.specs.Outcome.{Outcome, fault, done, ◌>>=◌}
 use Rattle.format.specs.Refusals.{rows_dont_fit}
@@ -8,8 +8,7 @@ use Rattle.format.specs.Grammars.{Grammar, old, new}
 use Rattle.format.specs.Read.{read_into}
 use Rattle.format.specs.HouseForm.{rewrite}
 use Rattle.format.specs.Answers.{grammar_of}
-use Rattle.structs.specs.declared.editions.Named.{Named}
-use Rattle.structs.specs.declared.editions.Named.TheVariants.{By, Nothing}
+use Rattle.format.specs.declared.answers.Edition.{Edition}
 
 -- the old edition's number
 abbrev pub old_edition : ℕ
@@ -28,9 +27,9 @@ unfoldable pub grammar_numbered : ℕ → Outcome Grammar
 grammar_numbered n = when eqb n old_edition then done old else when eqb n new_edition then done new else no_edition
 
 -- the same, of the edition that a number names
-abbrev pub grammar_named : Named → Outcome Grammar
-grammar_named (By e) = done (grammar_of e)
-grammar_named Nothing = no_edition
+abbrev pub grammar_named : Option Edition → Outcome Grammar
+grammar_named (Some e) = done (grammar_of e)
+grammar_named None = no_edition
 
 -- reading into lent words by an edition's number
 unfoldable pub read_numbered : ℕ → List ℕ → List ℕ → Outcome Forest

@@ -1,11 +1,11 @@
 // The structs that the C calls answer with. specs/Answers.antt says what they hold for each outcome.
 ghost use Rattle.std.specs.Prelude.{◌≡◌, true};
 ghost use Rattle.format.specs.Answers.{answered, located, found, valued, value_of, nan_apart};
-ghost use Rattle.format.specs.Values.{signed as signed_value};
 ghost use Rattle.values.specs.Answers.{NansApart};
 ghost use Rattle.structs.specs.Answers.{reading_for, place_for, member_for, case_for, bits_for, scalar_for};
 
-use format::answers::{Answer, Found, Located, Value, Valued};
+use format::answers::{Answer, Span, Token, Value};
+use format::refusals::Refusal;
 
 // Number and place, and the rows used or the bytes written.
 #[repr(C)]
@@ -44,6 +44,7 @@ pub struct Scalar {
 }
 
 // The reader's and the rewriter's answer.
+#[tactic(auto, unfolding(format::specs::Outcome::number_of, format::specs::Outcome::place_of, format::specs::Outcome::or_zero))]
 pub fn reading_of(answer: Answer) -> Reading
     ensures { result ≡ reading_for (answered answer) }
 {
@@ -62,34 +63,42 @@ pub fn reading_of(answer: Answer) -> Reading
 }
 
 // A slot or a text.
-pub fn place_of(answer: Located) -> Place
-    ensures { result ≡ place_for (located answer) }
-{
-    match answer {
-        Located::Refused(number) => Place {
-            number,
-            first: 0,
-            width: 0,
-        },
-        Located::At(first, width) => Place {
-            number: 0,
-            first,
-            width,
-        },
+impl From<Result<Span, Refusal>> for Place {
+    ghost from_gives = { λ answer place. place ≡ place_for (located answer) };
+
+    fn from(answer: Result<Span, Refusal>) -> Place {
+        match answer {
+            Err(refusal) => Place {
+                number: refusal.number(),
+                first: 0,
+                width: 0,
+            },
+            Ok(Span { first, width }) => Place {
+                number: 0,
+                first,
+                width,
+            },
+        }
     }
 }
 
 // The row that a name leads to.
-pub fn member_of(answer: Found) -> Member
-    ensures { result ≡ member_for (found answer) }
-{
-    match answer {
-        Found::Refused(number) => Member { number, row: 0 },
-        Found::Row(row) => Member { number: 0, row },
+impl From<Result<usize, Refusal>> for Member {
+    ghost from_gives = { λ answer member. member ≡ member_for (found answer) };
+
+    #[tactic(auto, unfolding(format::specs::Outcome::number_of, format::specs::Outcome::or_zero))]
+    fn from(answer: Result<usize, Refusal>) -> Member {
+        match answer {
+            Err(refusal) => {
+                let number = refusal.number();
+                Member { number, row: 0 }
+            }
+            Ok(row) => Member { number: 0, row },
+        }
     }
 }
 
-// The number of a value's case.
+// The number of a value's case, as the C interface has it.
 fn case_of(value: Value) -> u32
     ensures { result ≡ case_for (value_of value) }
 {
@@ -98,40 +107,11 @@ fn case_of(value: Value) -> u32
         Value::Boolean(_) => 1,
         Value::Signed(_) => 2,
         Value::Unsigned(_) => 3,
-        Value::Single(_) => 4,
-        Value::SingleNan(_) => 4,
-        Value::Double(_) => 5,
-        Value::DoubleNan(_) => 5,
+        Value::Single(_) | Value::SingleNan(_) => 4,
+        Value::Double(_) | Value::DoubleNan(_) => 5,
         Value::Char(_) => 6,
         Value::Byte(_) => 7,
     }
-}
-
-// A boolean's bit.
-fn flag(b: bool) -> u64
-    ensures { result ≡ bits_for (value_of (Value.Boolean b)) }
-{
-    if b {
-        return 1;
-    }
-    0
-}
-
-// A signed number in two's complement.
-fn twos_complement(n: i64) -> u64
-    ensures { result ≡ bits_for (signed_value n) }
-{
-    if n < 0 {
-        return 0xFFFF_FFFF_FFFF_FFFF - (-1 - n) as u64;
-    }
-    n as u64
-}
-
-// A word as a number.
-fn wide(n: u32) -> u64
-    ensures { result ≡ n }
-{
-    n as u64
 }
 
 // A value's bits.
@@ -141,39 +121,35 @@ fn bits_of(value: Value) -> u64
 {
     match value {
         Value::Null => 0,
-        Value::Boolean(b) => flag(b),
-        Value::Signed(n) => twos_complement(n),
+        Value::Boolean(b) => u64::from(b),
+        Value::Signed(n) => n.cast_unsigned(),
         Value::Unsigned(n) => n,
-        Value::Single(f) => wide(f32::to_bits(f)),
-        Value::SingleNan(b) => wide(b),
-        Value::Double(f) => f64::to_bits(f),
+        Value::Single(f) => u64::from(f.to_bits()),
+        Value::SingleNan(b) => u64::from(b),
+        Value::Double(f) => f.to_bits(),
         Value::DoubleNan(b) => b,
-        Value::Char(c) => c as u64,
-        Value::Byte(b) => b as u64,
+        Value::Char(c) => u64::from(c),
+        Value::Byte(b) => u64::from(b),
     }
 }
 
-// A scalar's value.
-pub fn scalar_of(answer: Valued) -> Scalar
+// A scalar's value. A function, and no `From`, since it asks that NaNs stand in cases of their own.
+pub fn scalar_of(answer: Result<Token, Refusal>) -> Scalar
     requires { NansApart answer }
     ensures { result ≡ scalar_for (valued answer) }
 {
     match answer {
-        Valued::Refused(number) => Scalar {
-            number,
+        Err(refusal) => Scalar {
+            number: refusal.number(),
             kind: 0,
             case: 0,
             bits: 0,
         },
-        Valued::Token(token) => {
-            let kind = token.kind;
-            let value = token.value;
-            Scalar {
-                number: 0,
-                kind: kind.number(),
-                case: case_of(value),
-                bits: bits_of(value),
-            }
-        }
+        Ok(Token { kind, value }) => Scalar {
+            number: 0,
+            kind: kind.number(),
+            case: case_of(value),
+            bits: bits_of(value),
+        },
     }
 }

@@ -10,19 +10,12 @@ const OLD: u32 = 1;
 const NEW: u32 = 2;
 
 // The edition that a number names, or none.
-#[derive(Clone, Copy)]
-pub enum Named {
-    By(Edition),
-    Nothing,
-}
-
-// The edition of a number.
-pub fn edition_of(number: u32) -> Named
+pub fn edition_of(number: u32) -> Option<Edition>
     ensures { grammar_named result ≡ grammar_numbered number }
 {
     match number {
-        OLD => Named::By(Edition::Old),
-        NEW => Named::By(Edition::New),
-        _ => Named::Nothing,
+        OLD => Some(Edition::Old),
+        NEW => Some(Edition::New),
+        _ => None,
     }
 }

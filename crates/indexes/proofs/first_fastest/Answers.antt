@@ -6,12 +6,13 @@ use Rattle.indexes.proofs.first_fastest.Goals as goal
 
 pub loop-k-init : goal.loop-k-init
 loop-k-init c =
-    (omega arith, first_end c.args.extents.now c.args.indexes.now)
+    first_end c.args.extents.now c.args.indexes.now
 
 pub bounds-indexes-k : goal.bounds-indexes-k
 bounds-indexes-k c =
-    omega (arith, c.loop-k-test.true, c.loop-k.invariant.0, range_length _ _ c.requires)
+    omega (arith, range_length _ _ c.requires)
 
 pub loop-k-preserved : goal.loop-k-preserved
 loop-k-preserved c =
-    let t = c.loop-k-test.true in let i = c.loop-k.invariant in let l = range_length _ _ c.requires in (omega (arith, t, i.0), first_on _ _ _ _ i.1 t i.0 l (omega (arith, range_at _ _ (c.loop-k.k - 1) c.requires (omega (arith, t, i.0)))) _ c.longer-number.ensures)
+    let t = c.loop-k-test.true in
+    first_on _ _ c.loop-k.k _ c.loop-k.invariant t c.loop-k.auto.k (range_length _ _ c.requires) (omega (arith, range_at _ _ (c.loop-k.k - 1) c.requires (omega (arith, t, c.loop-k.auto.k)))) _ c.longer-number.ensures
