@@ -17,8 +17,9 @@ use Rattle.rows.specs.Overlay.{lay}
 use Rattle.tokens.specs.Answers as Tokens
 use Rattle.tokens.specs.Answers.{onto}
 use Rattle.tokens.proofs.Sofar.{seq_read, Sofar, sofar_start, sofar_as, sofar_step, sofar_fault, sofar_end}
+use Rattle.std.specs.Prelude.{Result, Ok, Err}
+use Rattle.format.specs.declared.refusals.Refused.{Refused}
 use Rattle.dimensions.specs.declared.Dims.{Dims}
-use Rattle.dimensions.specs.declared.Dims.TheVariants.{Fault, Next}
 use Rattle.dimensions.specs.Answers.{capped, Laid, Within}
 
 -- ---- products
@@ -72,9 +73,9 @@ laid_one t row next ancestry before now h e =
     }
 
 -- what ends from a place on ends from every place before it on
-pub within_from : (r : Dims) (low low' high rows_lent : ℕ) → low' ≤ low → Within r low high rows_lent → Within r low' high rows_lent
-within_from (Fault n p) low low' high rows_lent h w = tt
-within_from (Next next row many) low low' high rows_lent h w = omega arith
+pub within_from : (r : Result Dims Refused) (low low' high rows_lent : ℕ) → low' ≤ low → Within r low high rows_lent → Within r low' high rows_lent
+within_from (Err r) low low' high rows_lent h w = tt
+within_from (Ok d) low low' high rows_lent h w = omega arith
 
 -- ---- a loop over dimensions
 
