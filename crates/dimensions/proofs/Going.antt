@@ -127,3 +127,9 @@ module _ {whole : Parsed Forest} {first : ℕ} {ancestry : Ancestry} {before : L
         times = sym (q ∙ ap capped (mul-one many) ∙ min-eq_left h);
         lie = l.lie;
       }
+
+-- the first is read
+pub going_first : (item rest : Reader) (at row next row' n : ℕ) (ancestry : Ancestry) (before after : List ℕ) → Laid (item at row) row ancestry before after next row' n → n ≤ limit + 1
+    → Going ((item ⨾ rest) at row) row ancestry before (rest next row') row' n after
+going_first item rest at row next row' n ancestry before after l h =
+    going_step (going_start _ row ancestry before) item rest at next row' n after refl l n (sym (ap capped (one-mul n) ∙ min-eq_left h))
