@@ -24,10 +24,8 @@ pub fn little_endian(message: &[u8], at: usize, width: usize) -> u64
         return 0;
     }
     let mut n = 0u64;
-    let mut k = width;
-    while 0 < k {
-        k -= 1;
-        let b = message[at + k] as u64;
+    for k in 0..width {
+        let b = message[at + (width - 1 - k)] as u64;
         n = n * 256 + b;
     }
     n
@@ -54,7 +52,13 @@ pub struct Parsed {
 }
 
 // The number under a mark, at most `highest`, whose bytes start at `start`; `place` is where it is refused.
-pub fn number(message: &[u8], highest: u32, mark: Mark, place: usize, start: usize) -> Result<Parsed, Refused>
+pub fn number(
+    message: &[u8],
+    highest: u32,
+    mark: Mark,
+    place: usize,
+    start: usize,
+) -> Result<Parsed, Refused>
     ensures is { parsed result ≡ number_in message.now highest mark.0 place start }
     ensures bounds { Bounded result highest (start + width mark.0) (length message.now) }
 {
