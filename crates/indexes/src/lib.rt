@@ -1,8 +1,6 @@
 // Indexes to the number of an element, and sums capped at the highest that a machine word holds.
 #![tactic(auto)]
 
-pub mod sums;
-
 ghost use Rattle.std.specs.Prelude.{◌≡◌, true, ◌+◌, ◌*◌};
 ghost use Rattle.format.specs.Indexes.{in_range, last_number, first_number, number_in};
 ghost use Rattle.indexes.specs.Sums.{capped};

@@ -1,3 +1,4 @@
 pub mod Cleared
 pub mod Overlay
 pub mod Clearing
+pub mod Chunks

@@ -103,7 +103,7 @@ lay_there ws i (r ∷ rs) h =
 
 -- what is laid from the first row on, and zeros after it
 pub lay_cleared : (ws : List ℕ) (rs : List Row) → length rs * row_words ≤ length ws → cleared_from (lay ws 0 rs) (length rs * row_words) ≡ filled (length ws) (words_of rs)
-unfolding cleared_from filled
+unfolding filled
 lay_cleared ws rs h =
     let w = length_words rs in
     let e : length rs * row_words ≡ length (words_of rs) = omega arith in

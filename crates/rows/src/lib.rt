@@ -1,10 +1,9 @@
 // Lent memory: the row table, which is 32-bit words, ten to a row, and bytes.
 #![tactic(auto)]
 
-ghost use Rattle.std.specs.Prelude.{◌≡◌, ◌+◌, ◌<◌, ◌≤◌, ◌^◌, length};
+ghost use Rattle.std.specs.Prelude.{◌≡◌, ◌+◌, ◌-◌, ◌<◌, ◌≤◌, ◌^◌, ◌++◌, length, take, replicate};
 ghost use Rattle.format.specs.Limits.{limit};
-ghost use Rattle.format.specs.Rows.{held_by, rows_in, row_at, word as word_in, zeros};
-ghost use Rattle.rows.specs.Clearing.{cleared_from};
+ghost use Rattle.format.specs.Rows.{held_by, rows_in, row_at, word as word_in};
 ghost use Rattle.rows.specs.Row.{row_of, ancestry_of, no_row, store as store_in};
 
 // How many words a row has.
@@ -67,10 +66,10 @@ pub fn word(rows: &[u32], row: usize, k: usize) -> usize
         return 0;
     }
     let at = row * ROW_WORDS;
-    if rows.len() - at <= k {
-        return 0;
+    match rows[at..].get(k) {
+        Some(word) => *word as usize,
+        None => 0,
     }
-    rows[at + k] as usize
 }
 
 // The link of a row; 0 past the table's end.
@@ -99,22 +98,34 @@ pub fn load(rows: &[u32], row: usize) -> Row
     ensures there { row < rows_in rows.now → row_of result ≡ row_at rows.now row }
     ensures past { rows_in rows.now ≤ row → row_of result ≡ no_row }
 {
-    let end = rows.len() / ROW_WORDS;
-    if end <= row {
-        return NO_ROW;
-    }
-    let at = row * ROW_WORDS;
-    Row {
-        kind: rows[at],
-        mark: rows[at + 1],
-        first: rows[at + 2],
-        payload: rows[at + 3],
-        extent: rows[at + 4],
-        count: rows[at + 5],
-        link: rows[at + 6],
-        order: rows[at + 7],
-        parent: rows[at + 8],
-        depth: rows[at + 9],
+    let (table, _) = rows.as_chunks::<ROW_WORDS>();
+    match table.get(row) {
+        Some(
+            &[
+                kind,
+                mark,
+                first,
+                payload,
+                extent,
+                count,
+                link,
+                order,
+                parent,
+                depth,
+            ],
+        ) => Row {
+            kind,
+            mark,
+            first,
+            payload,
+            extent,
+            count,
+            link,
+            order,
+            parent,
+            depth,
+        },
+        None => NO_ROW,
     }
 }
 
@@ -126,56 +137,45 @@ pub fn store(rows: &mut [u32], row: usize, r: Row)
         return;
     }
     let at = row * ROW_WORDS;
-    rows[at] = r.kind;
-    rows[at + 1] = r.mark;
-    rows[at + 2] = r.first;
-    rows[at + 3] = r.payload;
-    rows[at + 4] = r.extent;
-    rows[at + 5] = r.count;
-    rows[at + 6] = r.link;
-    rows[at + 7] = r.order;
-    rows[at + 8] = r.parent;
-    rows[at + 9] = r.depth;
+    rows[at..at + ROW_WORDS].copy_from_slice(&[
+        r.kind, r.mark, r.first, r.payload, r.extent, r.count, r.link, r.order, r.parent, r.depth,
+    ]);
 }
 
-// Zeros every word, a remainder's too.
-pub fn clear(rows: &mut [u32])
-    ensures { rows.new ≡ zeros (length rows.old) }
+// What lent memory is made of: words and bytes.
+pub trait Zero: Copy {
+    const ZERO: Self;
+
+    ghost ZERO: { Self };
+}
+
+impl Zero for u32 {
+    const ZERO: u32 = 0;
+
+    ghost ZERO = { 0 };
+}
+
+impl Zero for u8 {
+    const ZERO: u8 = 0;
+
+    ghost ZERO = { 0 };
+}
+
+// Zeros all of it, in a row table a remainder's words too.
+pub fn clear<T: Zero>(lent: &mut [T])
+    ensures { lent.new ≡ replicate (length lent.old) T.ZERO }
 {
-    let mut i = 0;
-    while i < rows.len() {
-        rows[i] = 0;
-        i += 1;
+    for place in lent.iter_mut() {
+        *place = T::ZERO;
     }
 }
 
-// Zeros every byte.
-pub fn clear_bytes(output: &mut [u8])
-    ensures { output.new ≡ zeros (length output.old) }
+// Zeros what stands from a place on.
+pub fn clear_from<T: Zero>(lent: &mut [T], from: usize)
+    ensures { lent.new ≡ take from lent.old ++ replicate (length lent.old - from) T.ZERO }
 {
-    let mut i = 0;
-    while i < output.len() {
-        output[i] = 0;
-        i += 1;
-    }
-}
-
-// Zeros the words from one on.
-pub fn clear_from(rows: &mut [u32], from: usize)
-    ensures { rows.new ≡ cleared_from rows.old from }
-{
-    if rows.len() <= from {
+    if lent.len() <= from {
         return;
     }
-    clear(&mut rows[from..]);
-}
-
-// Zeros the bytes from one on.
-pub fn clear_bytes_from(output: &mut [u8], from: usize)
-    ensures { output.new ≡ cleared_from output.old from }
-{
-    if output.len() <= from {
-        return;
-    }
-    clear_bytes(&mut output[from..]);
+    clear(&mut lent[from..]);
 }

@@ -9,9 +9,8 @@ ghost use Rattle.pieces.specs.Puts.{Puts};
 ghost use Rattle.pieces.specs.Shapes.{shape_start, shape_end};
 ghost use Rattle.writer.specs.Pieces.{dollar_sign, payload_at, single, head, middle, tail};
 
-use crate::kinds::{
-    DIMENSION, EXTENSION, KEY, LEAF, PACKED, SCALAR, SCHEMA_RECORD, TABLE, is_list,
-};
+use crate::kinds::is_list;
+use format::answers::Kind;
 use format::marks::{Mark, closing_mark};
 use pieces::bytes::{put, put_integer, put_part};
 use pieces::{
@@ -45,13 +44,19 @@ pub fn put_single(message: &[u8], output: &mut [u8], at: usize, r: Row) -> usize
     let extent = r.extent;
     let payload = part(message, r.payload as usize, extent as usize);
     let kind = r.kind;
-    match kind {
-        SCALAR => put_scalar(output, at, mark, payload),
-        KEY => put_key(output, at, extent, payload),
-        LEAF => put_leaf(output, at, mark, extent),
-        DIMENSION => put_integer(output, at, r.count),
-        _ => put_text(output, at, mark, extent, payload),
+    if kind == Kind::Scalar.number() {
+        return put_scalar(output, at, mark, payload);
     }
+    if kind == Kind::Key.number() {
+        return put_key(output, at, extent, payload);
+    }
+    if kind == Kind::Leaf.number() {
+        return put_leaf(output, at, mark, extent);
+    }
+    if kind == Kind::Dimension.number() {
+        return put_integer(output, at, r.count);
+    }
+    put_text(output, at, mark, extent, payload)
 }
 
 // What a packed array opens with.
@@ -76,11 +81,11 @@ pub fn put_head(output: &mut [u8], at: usize, r: Row) -> usize
     if is_list(r.kind) {
         return put_counted(output, at, mark, r.count);
     }
-    if r.kind == PACKED {
+    if r.kind == Kind::Packed.number() {
         return put_packed(output, at, mark, r.order, r.count);
     }
     let next = put(output, at, mark);
-    if r.kind == TABLE {
+    if r.kind == Kind::Table.number() {
         return put(output, next, Mark::TYPE);
     }
     next
@@ -144,14 +149,18 @@ pub fn put_tail(message: &[u8], output: &mut [u8], at: usize, r: Row) -> usize
     if is_list(r.kind) {
         return at;
     }
-    if r.kind == PACKED {
+    if r.kind == Kind::Packed.number() {
         return put_payload(message, output, at, r.order, r.payload, r.extent);
     }
-    if r.kind == TABLE {
+    if r.kind == Kind::Table.number() {
         return put_payload(message, output, at, r.order, r.payload, r.extent);
     }
-    if r.kind == EXTENSION {
+    if r.kind == Kind::Extension.number() {
         return put_extension(message, output, at, r);
     }
-    put(output, at, closing_mark(r.kind == SCHEMA_RECORD))
+    put(
+        output,
+        at,
+        closing_mark(r.kind == Kind::SchemaRecord.number()),
+    )
 }

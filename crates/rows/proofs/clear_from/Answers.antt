@@ -2,10 +2,10 @@
 use Rattle.rows.proofs.Clearing.{cleared_past, cleared_part}
 use Rattle.rows.proofs.clear_from.Goals as goal
 
-pub returns-then-rows-from : goal.returns-then-rows-from
-returns-then-rows-from c =
-    cleared_past _ _ c.if-rows-from.true
+pub returns-then-lent-from : goal.returns-then-lent-from
+returns-then-lent-from g c =
+    cleared_past g.T.Zero.ZERO _ _ c.if-lent-from.true
 
 pub returns : goal.returns
-returns c =
-    cleared_part _ _ _ c.if-rows-from.false c.clear.ensures
+returns g c =
+    cleared_part g.T.Zero.ZERO _ _ _ c.if-lent-from.false c.clear.ensures

@@ -4,27 +4,27 @@ use Rattle.format.specs.Conditions.{when◌then◌else◌}
 use Rattle.writer.specs.Pieces.{payload_at, single}
 use Rattle.writer.proofs.by_row.put_single.Goals as goal
 
-pub returns-in-1 : goal.returns-in-1
+pub returns-then-kind-number : goal.returns-then-kind-number
 unfolding single payload_at when◌then◌else◌
-returns-in-1 c =
-    rw (c.in-1.is, ← c.of-letter.ensures, ← c.part-payload.ensures) c.put_scalar.ensures
+returns-then-kind-number c =
+    rw (rw c.number.ensures at c.if-kind-number.true, ← c.of-letter.ensures, ← c.part-payload.ensures) c.put_scalar.ensures
 
-pub returns-in-4 : goal.returns-in-4
+pub returns-then-kind-number-2 : goal.returns-then-kind-number-2
 unfolding single payload_at when◌then◌else◌
-returns-in-4 c =
-    rw (c.in-4.is, ← c.part-payload.ensures) c.put_key.ensures
+returns-then-kind-number-2 c =
+    rw (rw c.number-2.ensures at c.if-kind-number-2.true, ← c.part-payload.ensures) c.put_key.ensures
 
-pub returns-in-9 : goal.returns-in-9
+pub returns-then-kind-number-3 : goal.returns-then-kind-number-3
 unfolding single payload_at when◌then◌else◌
-returns-in-9 c =
-    rw (c.in-9.is, ← c.of-letter.ensures) c.put_leaf.ensures
+returns-then-kind-number-3 c =
+    rw (rw c.number-3.ensures at c.if-kind-number-3.true, ← c.of-letter.ensures) c.put_leaf.ensures
 
-pub returns-in-12 : goal.returns-in-12
+pub returns-then-kind-number-4 : goal.returns-then-kind-number-4
 unfolding single payload_at when◌then◌else◌
-returns-in-12 c =
-    rw c.in-12.is c.put_integer.ensures
+returns-then-kind-number-4 c =
+    rw (rw c.number-4.ensures at c.if-kind-number-4.true) c.put_integer.ensures
 
-pub returns-in_default : goal.returns-in_default
+pub returns : goal.returns
 unfolding single payload_at when◌then◌else◌
-returns-in_default c =
-    let n = c.in_default.in_default-own.rest in rw (ne_eqb _ _ n.1, ne_eqb _ _ n.0.1, ne_eqb _ _ n.0.0.1, ne_eqb _ _ n.0.0.0.1, ← c.of-letter.ensures, ← c.part-payload.ensures) c.put_text.ensures
+returns c =
+    rw (ne_eqb _ _ (rw c.number.ensures at c.if-kind-number.false), ne_eqb _ _ (rw c.number-2.ensures at c.if-kind-number-2.false), ne_eqb _ _ (rw c.number-3.ensures at c.if-kind-number-3.false), ne_eqb _ _ (rw c.number-4.ensures at c.if-kind-number-4.false), ← c.of-letter.ensures, ← c.part-payload.ensures) c.put_text.ensures

@@ -1,20 +1,13 @@
 -- `is_list`: by the kind. Assumes nothing.
-use borrow.Author.Tests.{ne_eqb}
-use Rattle.format.specs.Conditions.{among}
-use Rattle.writer.specs.Pieces.{is_list}
+use Rattle.writer.proofs.KindCases.{no_list, list_kind, other_list}
 use Rattle.writer.proofs.kinds.is_list.Goals as goal
 
-pub returns-in-5 : goal.returns-in-5
-unfolding is_list among
-returns-in-5 c =
-    rw c.in-5.is
-
-pub returns-in-6 : goal.returns-in-6
-unfolding is_list among
-returns-in-6 c =
-    rw c.in-6.is
-
 pub returns-in_default : goal.returns-in_default
-unfolding is_list among
-returns-in_default c =
-    let n = c.in_default.in_default-own.rest in rw (ne_eqb _ _ n.1, ne_eqb _ _ n.0.1)
+returns-in_default c = no_list _ c.in_default.ensures
+
+pub returns-in-Array : goal.returns-in-Array
+returns-in-Array c =
+    list_kind _ _ c.in-Ok.ensures c.in-Array.is
+
+pub returns-in_default-matches : goal.returns-in_default-matches
+returns-in_default-matches c = other_list _ _ c.in-Ok.ensures c.in_default-matches.not-Array c.in_default-matches.not-Object
