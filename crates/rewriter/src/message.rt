@@ -9,7 +9,7 @@ use forests::settled::settle;
 use forests::walk::put_tokens;
 use format::answers::{Answer, Edition};
 use reader::message::read;
-use rows::clear_bytes;
+use rows::clear;
 
 // Writes a message in house form: the bytes written, or a refusal's number and place. The rows then hold the message's rows. What
 // isn't filled of rows and output is zero, on refusal all.
@@ -20,7 +20,7 @@ pub fn rewrite(edition: Edition, message: &[u8], rows: &mut [u32], output: &mut 
 {
     match read(edition, message, rows) {
         Answer::Refused(n, p) => {
-            clear_bytes(output);
+            clear(output);
             Answer::Refused(n, p)
         }
         Answer::Done(used) => {

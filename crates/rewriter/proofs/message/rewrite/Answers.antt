@@ -9,7 +9,7 @@ put_tokens-end-requires c =
 
 pub returns-in-Refused : goal.returns-in-Refused
 returns-in-Refused c =
-    let l = refused _ _ _ _ _ _ _ _ (rw c.in-Refused.is at c.read.ensures.answer) c.clear_bytes.ensures c.read.ensures.words in
+    let l = refused _ _ _ _ _ _ _ _ (rw c.in-Refused.is at c.read.ensures.answer) c.clear.ensures c.read.ensures.words in
     record { answer = l.answers; output = l.output_is; words = l.words_are }
 
 pub returns-in-Done : goal.returns-in-Done
