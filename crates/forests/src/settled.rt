@@ -5,7 +5,7 @@ ghost use Rattle.forests.specs.Settled.{fits_in, Settled};
 
 use format::limits::LIMIT;
 use format::refusals::{Refusal, Refused};
-use rows::{clear, clear_bytes_from};
+use rows::{clear, clear_from};
 
 // Whether so many bytes fit the room, and the limit.
 fn fits(n: usize, room: usize) -> bool
@@ -22,10 +22,10 @@ pub fn settle(rows: &mut [u32], output: &mut [u8], end: usize) -> Result<usize, 
     ensures { Settled end rows.old output.old (answered result) rows.new output.new }
 {
     if fits(end, output.len()) {
-        clear_bytes_from(output, end);
+        clear_from(output, end);
         return Ok(end);
     }
     clear(rows);
-    clear_bytes_from(output, 0);
+    clear(output);
     Err(Refused(Refusal::OutputTooLong, 0))
 }

@@ -6,9 +6,10 @@ ghost use Rattle.rows.specs.Row.{row_of};
 ghost use Rattle.pieces.specs.Puts.{Puts};
 ghost use Rattle.forests.specs.Held.{Held, HeldToken, Room, most};
 
+use format::answers::Kind;
 use rows::{Row, link as link_of, load};
 use writer::by_row::{put_head, put_middle, put_single, put_tail};
-use writer::kinds::{TABLE, is_single};
+use writer::kinds::is_single;
 
 // The table of row r, whose rows end at `link`: its schema, and then its dimensions.
 #[cycle(put_table_put_token_put_tokens)]
@@ -54,7 +55,7 @@ fn put_token(
     if is_single(r.kind) {
         return put_single(message, output, at, r);
     }
-    if r.kind == TABLE {
+    if r.kind == Kind::Table.number() {
         return put_table(message, rows, output, at, row, link, r);
     }
     let below = row + 1;

@@ -1,14 +1,13 @@
 -- Bytes put one after another: in pieces, byte by byte, and digit by digit. Assumes nothing.
-use Prim.Native.Nat.{ℕ, zero, suc, ◌+◌, ◌-◌, ◌/◌, ◌%◌, ◌≤◌, ◌<◌}
-use mathlib.Core.Path.{◌≡◌, refl, sym, ap, subst, ◌∙◌}
+use Prim.Native.Nat.{ℕ, ◌+◌, ◌/◌, ◌%◌, ◌≤◌, ◌<◌}
+use mathlib.Core.Path.{◌≡◌, refl, ap, ◌∙◌}
 use mathlib.Core.Bool.{Bool, true, false}
-use mathlib.Core.List.{List, [], ◌∷◌, ◌++◌, append-nil, append_assoc}
+use mathlib.Core.List.{List, [], ◌∷◌, ◌++◌}
 use native.Mathlib.Omega.{arith}
-use native.Mathlib.Numerals.{add-one}
 use lib.ListN.{length, set, take, drop, get_or, length-set, length-take, length-append}
 use lib.Dec.{eqb}
 use borrow.Author.Tests.{lt-ltb, le-ltb}
-use lib.Seq.{sets, length-sets, length-take-le, take_all, take-suc}
+use lib.Seq.{sets, length-sets}
 use Rattle.format.specs.Conditions.{when◌then◌else◌, among}
 use Rattle.format.specs.Marks.{width, 'U', 'u', 'm', ']'}
 use Rattle.format.specs.Tokens.{plain_count, first_slowest}
@@ -18,6 +17,9 @@ use Rattle.format.specs.Extensions.{id_bytes}
 use Rattle.format.specs.HouseForm.{digits, small_integer}
 use Rattle.format.proofs.MarkFacts.{width_few}
 use Rattle.format.proofs.Little.{length_digits}
+use borrow.Rule.Slice.PartMut.{put_mid}
+use Rattle.std.specs.Int.{to_le_bytes, w32}
+use Rattle.rows.proofs.Chunks.{put_at}
 use Rattle.rows.proofs.Overlay.{sets_append}
 use Rattle.pieces.specs.Puts.{Puts}
 use Rattle.pieces.specs.Shapes.{shape_end}
@@ -48,48 +50,11 @@ puts_append {l} {l'} {l''} {at} {mid} {next} x y p q =
           q.there (omega arith) ∙ ap (λ s. sets s mid y) (p.there a) ∙ ap (λ j. sets (sets l at x) j y) e ∙ sets_append x y l at;
     }
 
--- ---- byte by byte
-
--- one byte more of a part
-pub part_on : (l part : List ℕ) (at i : ℕ) → i < length part → set (sets l at (take i part)) (at + i) (get_or part i 0) ≡ sets l at (take (i + 1) part)
-part_on l part at i h =
-    let e : length (take i part) ≡ i = length-take-le i part (omega arith) in
-    let s = sets_append (take i part) (get_or part i 0 ∷ []) l at in
-    rw (add-one i, take-suc part i 0 h) (ap (λ j. set (sets l at (take i part)) j (get_or part i 0)) (omega arith) ∙ s)
-
--- all of it
-pub part_end : (l l' part : List ℕ) (at next i : ℕ) → next ≡ at + length part → i ≤ length part → length part ≤ i → l' ≡ sets l at (take i part) → Puts l l' at next part
-part_end l l' part at next i e low high q =
-    let f = q ∙ ap (sets l at) (take_all i part high) in
-    record { reach = e; kept = ap length f ∙ length-sets l at part; there = λ h. f }
-
--- ---- digit by digit
-
--- so many bytes of a number were put, and the digits of the rest are left
-pub record Going (before after : List ℕ) (at to left rest : ℕ) (all : List ℕ) : Type 0 where
-  pub sofar : List ℕ
-  pub puts : Puts before after at to sofar
-  pub joins : sofar ++ digits left rest ≡ all
-
-pub going_start : (l : List ℕ) (at width n : ℕ) → Going l l at at width n (digits width n)
-going_start l at width n = record { sofar = []; puts = puts_none l at; joins = refl }
-
-pub going_on : {l l' l'' all : List ℕ} {at to next : ℕ} (left rest : ℕ) → 0 < left → Going l l' at to left rest all → Puts l' l'' to next (rest % 256 ∷ [])
-    → Going l l'' at next (left - 1) (rest / 256) all
-unfolding digits
-going_on zero rest h g p = absurd (omega arith)
-going_on (suc k) rest h g p =
-    let e : suc k - 1 ≡ k = omega arith in
-    record {
-      sofar = g.sofar ++ rest % 256 ∷ [];
-      puts = puts_append g.sofar (rest % 256 ∷ []) g.puts p;
-      joins = rw e (append_assoc g.sofar (rest % 256 ∷ []) (digits k (rest / 256)) ∙ g.joins);
-    }
-
-pub going_end : {l l' all : List ℕ} {at to : ℕ} (left rest : ℕ) → left ≡ 0 → Going l l' at to left rest all → Puts l l' at to all
-unfolding digits
-going_end {l} {l'} {all} {at} {to} zero rest e g = subst (Puts l l' at to) (sym (append-nil g.sofar) ∙ g.joins) g.puts
-going_end (suc k) rest e g = absurd (omega arith)
+-- a part
+pub puts_part : (l part : List ℕ) (at next k : ℕ) → next ≡ at + length part → k ≡ length part → next ≤ length l → Puts l (put_mid at k l part) at next part
+puts_part l part at next k e f h =
+    let s = put_at l part at k f (omega arith) in
+    record { reach = e; kept = ap length s ∙ length-sets l at part; there = λ q. s }
 
 -- ---- a mark and its number
 
@@ -105,6 +70,23 @@ in_two n h k = rw (le-ltb n 256 h, lt-ltb n 65536 k) refl
 pub in_four : (n : ℕ) → 65536 ≤ n → smallest n ≡ 'm'
 unfolding smallest width among when◌then◌else◌
 in_four n h = rw (le-ltb n 256 (omega arith), le-ltb n 65536 h) refl
+
+-- the bytes of a number are its digits
+module _ (n : ℕ) (bytes : List ℕ) (low : bytes ≡ to_le_bytes w32 n) where
+  pub one_digit : take 1 bytes ≡ digits (width 'U') n
+  unfolding digits width among when◌then◌else◌
+  one_digit = rw low
+
+  pub two_digits : take 2 bytes ≡ digits (width 'u') n
+  unfolding digits width among when◌then◌else◌
+  two_digits = rw low
+
+  pub four_digits : bytes ≡ digits (width 'm') n
+  unfolding digits width among when◌then◌else◌
+  four_digits =
+      let third : n / 65536 % 256 ≡ n / 256 / 256 % 256 = omega arith in
+      let fourth : n / 16777216 % 256 ≡ n / 256 / 256 / 256 % 256 = omega arith in
+      rw (low, third, fourth)
 
 -- a number under the smallest mark
 pub integer_puts : {l l' : List ℕ} {at next : ℕ} (n mark : ℕ) → smallest n ≡ mark → Puts l l' at next (mark ∷ digits (width mark) n) → Puts l l' at next (small_integer n)

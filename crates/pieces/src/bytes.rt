@@ -1,9 +1,9 @@
 // Bytes, parts and integers.
-ghost use Rattle.std.specs.Prelude.{[], ◌∷◌, ◌<◌, ◌≤◌, ◌^◌};
-ghost use Rattle.format.specs.Marks.{width};
-ghost use Rattle.format.specs.HouseForm.{digits, small_integer};
+ghost use Rattle.std.specs.Prelude.{[], ◌∷◌, ◌<◌, ◌^◌};
+ghost use Rattle.format.specs.HouseForm.{small_integer};
 ghost use Rattle.pieces.specs.Puts.{Puts};
 
+use crate::put_scalar;
 use format::marks::Mark;
 
 // One byte; the place after it.
@@ -27,37 +27,8 @@ pub fn put_part(output: &mut [u8], at: usize, part: &[u8]) -> usize
     if output.len() < next {
         return next;
     }
-    let mut i = 0;
-    while i < part.len() {
-        output[at + i] = part[i];
-        i += 1;
-    }
+    output[at..next].copy_from_slice(part);
     next
-}
-
-// A number in so many bytes, little-endian.
-fn put_digits(output: &mut [u8], at: usize, width: usize, n: u32) -> usize
-    requires { (at < 2 ^ 62) × (width ≤ 8) }
-    ensures { Puts output.old output.new at result (digits width n) }
-{
-    let mut left = width;
-    let mut rest = n;
-    let mut to = at;
-    while 0 < left {
-        to = put(output, to, (rest % 256) as u8);
-        rest = rest / 256;
-        left -= 1;
-    }
-    to
-}
-
-// A number under a mark: the mark, and as many bytes as go with it.
-fn put_number(output: &mut [u8], at: usize, mark: u8, n: u32) -> usize
-    requires { at < 2 ^ 61 }
-    ensures { Puts output.old output.new at result (mark ∷ digits (width mark) n) }
-{
-    let next = put(output, at, mark);
-    put_digits(output, next, Mark(mark).width(), n)
 }
 
 // A length, a count or a dimension: the smallest of `U u m` that holds it, and its number.
@@ -65,11 +36,12 @@ pub fn put_integer(output: &mut [u8], at: usize, n: u32) -> usize
     requires { at < 2 ^ 61 }
     ensures { Puts output.old output.new at result (small_integer n) }
 {
+    let digits = n.to_le_bytes();
     if n < 256 {
-        return put_number(output, at, Mark::UINT8, n);
+        return put_scalar(output, at, Mark::UINT8, &digits[..1]);
     }
     if n < 65536 {
-        return put_number(output, at, Mark::UINT16, n);
+        return put_scalar(output, at, Mark::UINT16, &digits[..2]);
     }
-    put_number(output, at, Mark::UINT32, n)
+    put_scalar(output, at, Mark::UINT32, &digits)
 }

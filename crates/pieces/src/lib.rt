@@ -16,7 +16,7 @@ use format::marks::Mark;
 
 // A scalar: its mark and its bytes.
 pub fn put_scalar(output: &mut [u8], at: usize, mark: u8, part: &[u8]) -> usize
-    requires { at < 2 ^ 60 }
+    requires { at < 2 ^ 62 }
     ensures { Puts output.old output.new at result (mark ∷ part.now) }
 {
     let next = put(output, at, mark);

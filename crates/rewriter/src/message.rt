@@ -10,7 +10,7 @@ use forests::walk::put_tokens;
 use format::answers::Edition;
 use format::refusals::Refused;
 use reader::message::read;
-use rows::clear_bytes;
+use rows::clear;
 
 // Writes a message in house form: the bytes written, or a refusal's number and place. The rows then hold the message's rows. What
 // isn't filled of rows and output is zero, on refusal all.
@@ -21,7 +21,7 @@ pub fn rewrite(edition: Edition, message: &[u8], rows: &mut [u32], output: &mut 
 {
     match read(edition, message, rows) {
         Err(refused) => {
-            clear_bytes(output);
+            clear(output);
             Err(refused)
         }
         Ok(used) => {

@@ -9,9 +9,9 @@ ghost use Rattle.panel.specs.Layout.{parts_of, number_and_place_parts, rows_part
 ghost use Rattle.structs.specs.Answers.{reading_for};
 ghost use Rattle.structs.specs.Editions.{read_numbered, rewrite_numbered};
 
-use rows::{clear, clear_bytes};
+use rows::clear;
 use structs::answers::{Reading, reading_of};
-use structs::editions::{Named, edition_of};
+use structs::editions::edition_of;
 
 // The answer where the number names no edition.
 const NO_EDITION: Reading = Reading {
@@ -51,8 +51,8 @@ pub extern "C" fn tanklefrost_read(edition: u32, message: &[u8], rows: &mut [u32
     ensures words { rows.new ≡ words_after (length rows.old) (read_numbered edition message.now rows.old) }
 {
     match edition_of(edition) {
-        Named::By(e) => reading_of(reader::message::read(e, message, rows)),
-        Named::Nothing => {
+        Some(e) => reading_of(reader::message::read(e, message, rows)),
+        None => {
             clear(rows);
             NO_EDITION
         }
@@ -73,10 +73,10 @@ pub extern "C" fn tanklefrost_rewrite(
     ensures words { rows.new ≡ rewrite_words_after (length rows.old) (read_numbered edition message.now rows.old) (rewrite_numbered edition message.now (rows_in rows.old) (length output.old)) }
 {
     match edition_of(edition) {
-        Named::By(e) => reading_of(rewriter::message::rewrite(e, message, rows, output)),
-        Named::Nothing => {
+        Some(e) => reading_of(rewriter::message::rewrite(e, message, rows, output)),
+        None => {
             clear(rows);
-            clear_bytes(output);
+            clear(output);
             NO_EDITION
         }
     }

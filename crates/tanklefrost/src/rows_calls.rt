@@ -7,7 +7,7 @@ ghost use Rattle.format.specs.Lookup.{lookup as lookup_in};
 ghost use Rattle.format.specs.Answers.{first_and_width};
 ghost use Rattle.structs.specs.Answers.{place_for, member_for, scalar_for};
 
-use structs::answers::{Member, Place, Scalar, member_of, place_of, scalar_of};
+use structs::answers::{Member, Place, Scalar, scalar_of};
 
 // The slot of a packed row and indexes. `size` is the message's length.
 #[unsafe(no_mangle)]
@@ -19,7 +19,7 @@ pub extern "C" fn tanklefrost_packed_slot(
 ) -> Place
     ensures { result ≡ place_for (first_and_width (packed_slot rows.now size row indexes.now)) }
 {
-    place_of(addresses::calls::packed_slot(rows, size, row, indexes))
+    Place::from(addresses::calls::packed_slot(rows, size, row, indexes))
 }
 
 // The slot of a table row, a leaf row and indexes.
@@ -33,7 +33,7 @@ pub extern "C" fn tanklefrost_table_slot(
 ) -> Place
     ensures { result ≡ place_for (first_and_width (table_slot rows.now size row leaf indexes.now)) }
 {
-    place_of(addresses::calls::table_slot(rows, size, row, leaf, indexes))
+    Place::from(addresses::calls::table_slot(rows, size, row, leaf, indexes))
 }
 
 // The value at a row of kind 1.
@@ -76,7 +76,7 @@ pub extern "C" fn tanklefrost_value_in_table(
 pub extern "C" fn tanklefrost_text_at_row(message: &[u8], rows: &[u32], row: usize) -> Place
     ensures { result ≡ place_for (first_and_width (text_at_row message.now rows.now row)) }
 {
-    place_of(texts::at_rows::number_at_row(message, rows, row))
+    Place::from(texts::at_rows::number_at_row(message, rows, row))
 }
 
 // The first byte and the length of the text in the slot of a table row, a leaf row and indexes.
@@ -90,7 +90,7 @@ pub extern "C" fn tanklefrost_text_in_table(
 ) -> Place
     ensures { result ≡ place_for (first_and_width (text_in_table message.now rows.now row leaf indexes.now)) }
 {
-    place_of(slots::text::number_in_table(message, rows, row, leaf, indexes))
+    Place::from(slots::text::number_in_table(message, rows, row, leaf, indexes))
 }
 
 // The row that a name leads to in an object or a schema record.
@@ -103,5 +103,5 @@ pub extern "C" fn tanklefrost_lookup(
 ) -> Member
     ensures { result ≡ member_for (lookup_in message.now rows.now name.now row) }
 {
-    member_of(lookup::lookup(message, rows, row, name))
+    Member::from(lookup::lookup(message, rows, row, name))
 }

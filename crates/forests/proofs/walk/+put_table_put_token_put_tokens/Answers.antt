@@ -93,7 +93,7 @@ put_token-returns-then-is_single-clause-bounds t c =
 
 pub put_token-put_tokens-end-requires : goal.put_token-put_tokens-end-requires
 put_token-put_tokens-end-requires t c =
-    let i = token_nested _ _ _ _ c.requires.0 (sym c.is_single.ensures ∙ c.if-is_single.false) (ne_eqb _ _ c.if-r-eq-TABLE.false) in
+    let i = token_nested _ _ _ _ c.requires.0 (sym c.is_single.ensures ∙ c.if-is_single.false) (ne_eqb _ _ (rw c.number.ensures at c.if-r-number.false)) in
     let h = c.put_head-start.ensures.reach in let hf = head_few (Row.row_of c.args.r) in
     let w = c.requires.1.low in let l = c.requires.0.ends in
     (omega arith, (i.held, record { short = c.requires.1.short; low = omega arith }))
@@ -111,7 +111,7 @@ put_token-returns-clause-puts t c =
     let w = c.requires.1.low in let l = c.requires.0.ends in
     let b = c.put_tokens-end.ensures.bounds in
     let tr = c.put_tail.ensures.reach in let tf = tail_few c.args.message.now c.requires.1.short (Row.row_of c.args.r) in λ x.
-    let i = token_nested _ _ _ _ x (sym c.is_single.ensures ∙ c.if-is_single.false) (ne_eqb _ _ c.if-r-eq-TABLE.false) in
+    let i = token_nested _ _ _ _ x (sym c.is_single.ensures ∙ c.if-is_single.false) (ne_eqb _ _ (rw c.number.ensures at c.if-r-number.false)) in
     rw (i.form c.args.message.now) (puts_append _ _ (puts_append _ _ c.put_head-start.ensures (c.put_tokens-end.ensures.puts i.held)) c.put_tail.ensures)
 
 pub put_token-returns-clause-bounds : goal.put_token-returns-clause-bounds

@@ -9,7 +9,7 @@ put_tokens-end-requires c =
 
 pub returns-in-Err : goal.returns-in-Err
 returns-in-Err c =
-    let l = refused _ _ _ _ _ _ _ _ (c.in-Err.ensures.answer) c.clear_bytes.ensures c.read.ensures.words in
+    let l = refused _ _ _ _ _ _ _ _ (c.in-Err.ensures.answer) c.clear.ensures c.read.ensures.words in
     record { answer = l.answers; output = l.output_is; words = l.words_are }
 
 pub returns-in-Ok : goal.returns-in-Ok

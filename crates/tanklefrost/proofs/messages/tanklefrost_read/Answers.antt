@@ -6,14 +6,14 @@ use Rattle.structs.specs.Answers.{reading_for}
 use Rattle.tanklefrost.proofs.Numbered.{read_by, read_by_none}
 use Rattle.tanklefrost.proofs.messages.tanklefrost_read.Goals as goal
 
-pub returns-in-By : goal.returns-in-By
-returns-in-By c =
-    let named = rw c.in-By.is at c.edition_of.ensures in
+pub returns-in-Some : goal.returns-in-Some
+returns-in-Some c =
+    let named = rw c.in-Some.is at c.edition_of.ensures in
     let read = c.read.ensures in
     rw (read_by _ _ named _ _) (record { answer = c.reading_of.ensures ∙ ap reading_for read.answer; words = read.words })
 
-pub returns-in-Nothing : goal.returns-in-Nothing
+pub returns-in-None : goal.returns-in-None
 unfolding rows_used words_after number_of place_of or_zero
-returns-in-Nothing c =
-    let named = rw c.in-Nothing.is at c.edition_of.ensures in
+returns-in-None c =
+    let named = rw c.in-None.is at c.edition_of.ensures in
     rw (read_by_none _ named _ _) (record { answer = refl; words = c.clear.ensures })
