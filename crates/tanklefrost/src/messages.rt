@@ -9,16 +9,13 @@ ghost use Rattle.panel.specs.Layout.{parts_of, number_and_place_parts, rows_part
 ghost use Rattle.structs.specs.Answers.{reading_for};
 ghost use Rattle.structs.specs.Editions.{read_numbered, rewrite_numbered};
 
+use format::refusals::{Refusal, Refused};
 use rows::clear;
-use structs::answers::{Reading, reading_of};
+use structs::answers::Reading;
 use structs::editions::edition_of;
 
 // The answer where the number names no edition.
-const NO_EDITION: Reading = Reading {
-    number: 12,
-    place: 0,
-    amount: 0,
-};
+const NO_EDITION: Result<usize, Refused> = Err(Refused(Refusal::RowsDontFit, 0));
 
 // The panel: number and place.
 #[unsafe(no_mangle)]
@@ -50,13 +47,11 @@ pub extern "C" fn tanklefrost_read(edition: u32, message: &[u8], rows: &mut [u32
     ensures answer { result ≡ reading_for (rows_used (read_numbered edition message.now rows.old)) }
     ensures words { rows.new ≡ words_after (length rows.old) (read_numbered edition message.now rows.old) }
 {
-    match edition_of(edition) {
-        Some(e) => reading_of(reader::message::read(e, message, rows)),
-        None => {
-            clear(rows);
-            NO_EDITION
-        }
-    }
+    let Some(edition) = edition_of(edition) else {
+        clear(rows);
+        return Reading::from(NO_EDITION);
+    };
+    Reading::from(reader::message::read(edition, message, rows))
 }
 
 // Rewrites a message to house form by an edition's number; a number that names none is 12. The rows then hold the message's rows. What
@@ -72,12 +67,10 @@ pub extern "C" fn tanklefrost_rewrite(
     ensures output { output.new ≡ output_after (length output.old) (rewrite_numbered edition message.now (rows_in rows.old) (length output.old)) }
     ensures words { rows.new ≡ rewrite_words_after (length rows.old) (read_numbered edition message.now rows.old) (rewrite_numbered edition message.now (rows_in rows.old) (length output.old)) }
 {
-    match edition_of(edition) {
-        Some(e) => reading_of(rewriter::message::rewrite(e, message, rows, output)),
-        None => {
-            clear(rows);
-            clear(output);
-            NO_EDITION
-        }
-    }
+    let Some(edition) = edition_of(edition) else {
+        clear(rows);
+        clear(output);
+        return Reading::from(NO_EDITION);
+    };
+    Reading::from(rewriter::message::rewrite(edition, message, rows, output))
 }
