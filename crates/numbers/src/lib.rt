@@ -18,11 +18,6 @@ pub fn quotient(a: usize, b: usize) -> usize {
     a.checked_div(b).unwrap_or(0)
 }
 
-// The remainder; 0 for a divisor of 0.
-pub fn remainder(a: usize, b: usize) -> usize {
-    a.checked_rem(b).unwrap_or(0)
-}
-
 // The smaller of two numbers.
 pub fn least(a: usize, b: usize) -> usize
     ensures one { result ≤ a }
@@ -36,34 +31,14 @@ pub fn narrow(x: usize) -> u32 {
     u32::try_from(x).unwrap_or(u32::MAX)
 }
 
-// A word as a number.
-pub fn wide(x: u32) -> usize {
-    x as usize
-}
-
-// The low byte of a number.
-pub fn low(x: u32) -> u8 {
-    (x % 256) as u8
-}
-
 // The byte at a place; 0 where there is none.
 pub fn byte(bytes: &[u8], at: usize) -> u8 {
     bytes.get(at).copied().unwrap_or(0)
 }
 
-// Stores a value where there is room.
-fn set<T: Drop>(items: &mut [T], at: usize, value: T) {
-    if let Some(item) = items.get_mut(at) {
-        *item = value;
-    }
-}
-
-// Stores a byte where there is room.
-pub fn set_byte(bytes: &mut [u8], at: usize, b: u8) {
-    set(bytes, at, b);
-}
-
 // Stores an index where there is room.
 pub fn set_index(indexes: &mut [usize], i: usize, value: usize) {
-    set(indexes, i, value);
+    if let Some(index) = indexes.get_mut(i) {
+        *index = value;
+    }
 }
