@@ -3,10 +3,10 @@ use crate::answers::{Numbers, Reading};
 use rows::ROW_WORDS;
 use std::fmt;
 
-// The numbers of answers, one past the last that has a place of its own.
+// The places of the numbers of answers: 0 to 13, and the last for any other.
 const NUMBERS: usize = 15;
 
-// The numbers of kinds, from 1 on.
+// The places of the numbers of kinds, which are 1 to 13.
 const KINDS: usize = 14;
 
 // The kind and the mark of a table by columns.
@@ -78,9 +78,16 @@ impl Features {
     }
 }
 
+// One more.
+fn count(n: &mut u64) {
+    *n = n.wrapping_add(1);
+}
+
 // One more, if a condition holds.
 fn count_if(n: &mut u64, holds: bool) {
-    *n = n.wrapping_add(u64::from(holds));
+    if holds {
+        count(n);
+    }
 }
 
 // A checksum with one number more.
@@ -149,9 +156,9 @@ impl Tally {
     // Counts a difference.
     pub fn add_difference(&mut self, pair: Pair) {
         match pair {
-            Pair::New => count_if(&mut self.new, true),
-            Pair::Old => count_if(&mut self.old, true),
-            Pair::Editions => count_if(&mut self.editions, true),
+            Pair::New => count(&mut self.new),
+            Pair::Old => count(&mut self.old),
+            Pair::Editions => count(&mut self.editions),
         }
     }
 
@@ -170,7 +177,7 @@ impl Tally {
 
     // Counts a message that the old edition refuses at an `E`, with the answer by the new one.
     pub fn add_extension(&mut self, answer: Numbers) {
-        count_if(&mut self.at_extension, true);
+        count(&mut self.at_extension);
         count_if(&mut self.new_accepted, answer.is_accepted());
     }
 
@@ -186,10 +193,10 @@ impl Tally {
 
     // Counts a reading by the new edition.
     pub fn add_new(&mut self, reading: Reading<'_>) {
-        count_if(&mut self.messages, true);
+        count(&mut self.messages);
         let number = reading.answer.number as usize;
         if let Some(n) = self.numbers.get_mut(number.min(NUMBERS - 1)) {
-            count_if(n, true);
+            count(n);
         }
         self.add_features(Features::of(reading));
         self.mix(reading);

@@ -73,7 +73,8 @@ fn character(page: &mut Page<'_>, beyond: u32) {
     }
 }
 
-// Writes characters of so many bytes in all.
+// Writes characters of so many bytes in all. Each has as many as are drawn for it, so that no range counts them and the loop tests
+// what is left.
 pub fn characters(page: &mut Page<'_>, bytes: u32) {
     let mut left = bytes;
     while 0 < left {

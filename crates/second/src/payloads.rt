@@ -66,7 +66,8 @@ fn wrong_value(m: &Machine<'_, '_>, value: Extent, from: u32, values: u32) -> Op
     None
 }
 
-// The place of the first wrong leaf of a table by columns: each field of the schema is one column.
+// The place of the first wrong leaf of a table by columns: each field of the schema is one column. A field's row says where the next
+// key is, so that no range lists the keys and the loop follows the rows.
 fn wrong_column(m: &Machine<'_, '_>, schema: Extent, from: u32, records: u32) -> Option<u32> {
     let mut key = schema.from.saturating_add(1);
     while key < schema.to {

@@ -4,7 +4,7 @@ use crate::numbers::number;
 // The words of a row.
 const ROW: usize = 10;
 
-// What a token is.
+// What a token is. The kinds and their numbers are this reader's own, so that it shows where the first one's are wrong.
 #[derive(Clone, Copy, PartialEq, Eq)]
 pub enum Kind {
     Scalar,
