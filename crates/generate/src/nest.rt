@@ -19,7 +19,8 @@ const NONE: Open = Open {
     left: 0,
 };
 
-// Those that are open, the innermost last, and how many are to be opened before anything else.
+// Those that are open, the innermost last, and how many are to be opened before anything else. There is no heap, so the list is fixed
+// and its length stands beside it.
 #[derive(Drop)]
 pub struct Nest {
     open: [Open; MOST],

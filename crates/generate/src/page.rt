@@ -5,7 +5,8 @@ use crate::dice::Dice;
 use crate::numbers::small;
 use format::marks::Mark;
 
-// A page: the lent bytes, how many of them are written, and the dice that choose them.
+// A page: the lent bytes, how many of them are written, and the dice that choose them. The memory is the caller's and fixed, so the
+// length stands beside it.
 #[derive(Drop)]
 pub struct Page<'a> {
     bytes: &'a mut [u8],

@@ -34,7 +34,8 @@ const NONE: Leaf = Leaf {
     field: 0,
 };
 
-// A schema as far as it is written: its leaves, its fields, and the bytes of its record.
+// A schema as far as it is written: its leaves, its fields, and the bytes of its record. There is no heap, so the list of leaves is
+// fixed and its length stands beside it.
 #[derive(Drop)]
 pub struct Schema {
     list: [Leaf; LEAVES],

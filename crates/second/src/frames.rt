@@ -1,7 +1,7 @@
 // The frames: what is open, the innermost last. A frame says what must come next in it.
 use crate::table::Place;
 
-// What must come next.
+// What must come next. Frames are copied and kept in a list, so it is an enum, and one match says which function takes the step.
 #[derive(Clone, Copy, PartialEq, Eq)]
 pub enum Task {
     // The message: its value, or what comes after it.
@@ -106,7 +106,7 @@ impl Frame {
     }
 }
 
-// All frames, and how many are open.
+// All frames, and how many are open. There is no heap, so the list is fixed and its length stands beside it.
 #[derive(Drop)]
 pub struct Stack {
     frames: [Frame; ALL],
