@@ -3,7 +3,7 @@
 //     Asked::read(rt, count)?          what all arguments ask for, or the first that is wrong
 //     asked.take(rt, i, count)?        what argument i asks for, too: whether it is a file's
 //     word(rt, i, &mut [0; 4096])      the word of argument i
-ghost use Rattle.std.specs.Prelude.{◌≤◌, length};
+ghost use Rattle.std.specs.Prelude.{◌≡◌, ◌≤◌, ◌↔◌, length, true, false, IsTrue, IsNone};
 
 use crate::faults::{Fault, Wrong};
 use crate::lists::List;
@@ -120,7 +120,10 @@ impl Asked {
     }
 
     // What argument i of so many asks for, beside what is asked for so far; answers whether it is a file's.
-    pub fn take(&mut self, rt: &impl Env, i: usize, count: usize) -> Result<bool, Wrong> {
+    pub fn take(&mut self, rt: &impl Env, i: usize, count: usize) -> Result<bool, Wrong>
+        ensures file { result ≡ Ok true → self.old.files ≤ self.new.files }
+        ensures option { result ≡ Ok false → self.new.files ≡ self.old.files }
+    {
         if 0 < self.skip {
             self.skip -= 1;
             return Ok(false);
@@ -141,7 +144,9 @@ impl Asked {
     }
 
     // An option that takes no word: a view, or that all words after it are files' names.
-    fn take_alone(&mut self, word: Word) {
+    fn take_alone(&mut self, word: Word)
+        ensures { self.new.files ≡ self.old.files }
+    {
         match word {
             Word::Rows => self.rows = true,
             Word::Slots => self.slots = true,
@@ -155,7 +160,9 @@ impl Asked {
     }
 
     // An address, at argument i of so many: two lists must follow.
-    fn take_address(&mut self, rt: &impl Env, i: usize, count: usize) -> Result<(), Wrong> {
+    fn take_address(&mut self, rt: &impl Env, i: usize, count: usize) -> Result<(), Wrong>
+        ensures { self.new.files ≡ self.old.files }
+    {
         if self.address.is_some() {
             return Err(Fault::Twice.at(i));
         }
@@ -165,7 +172,9 @@ impl Asked {
     }
 
     // A path of names, at argument i of so many: a word must follow.
-    fn take_name(&mut self, i: usize, count: usize) -> Result<(), Wrong> {
+    fn take_name(&mut self, i: usize, count: usize) -> Result<(), Wrong>
+        ensures { self.new.files ≡ self.old.files }
+    {
         if self.name.is_some() {
             return Err(Fault::Twice.at(i));
         }
@@ -179,7 +188,9 @@ impl Asked {
     }
 
     // An edition, at argument i of so many: its name must follow.
-    fn take_edition(&mut self, rt: &impl Env, i: usize, count: usize) -> Result<(), Wrong> {
+    fn take_edition(&mut self, rt: &impl Env, i: usize, count: usize) -> Result<(), Wrong>
+        ensures { self.new.files ≡ self.old.files }
+    {
         if self.edition.is_some() {
             return Err(Fault::Twice.at(i));
         }
@@ -189,12 +200,19 @@ impl Asked {
     }
 
     // The edition that messages are read by: the new one where none is named.
-    pub fn read_by(&self) -> Edition {
+    pub fn read_by(&self) -> Edition
+        ensures { (result ≡ Edition.Old) ↔ (self.now.edition ≡ Some Edition.Old) }
+    {
         self.edition.unwrap_or(Edition::New)
     }
 
     // Whether no view is asked for by name: then the rows are shown.
-    pub fn is_plain(&self) -> bool {
+    pub fn is_plain(&self) -> bool
+        ensures slots { IsTrue result → self.now.slots ≡ false }
+        ensures hex { IsTrue result → self.now.hex ≡ false }
+        ensures address { IsTrue result → IsNone self.now.address }
+        ensures name { IsTrue result → IsNone self.now.name }
+    {
         !self.slots && !self.hex && self.address.is_none() && self.name.is_none()
     }
 

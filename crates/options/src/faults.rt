@@ -1,4 +1,6 @@
 // What is wrong with the command line.
+ghost use Rattle.std.specs.Prelude.{◌≡◌};
+
 use std::fmt;
 use std::fmt::{Display, Formatter, Write};
 
@@ -28,7 +30,10 @@ pub enum Fault {
 
 impl Fault {
     // This at an argument's place.
-    pub fn at(self, place: usize) -> Wrong {
+    pub fn at(self, place: usize) -> Wrong
+        ensures place { result.place ≡ place }
+        ensures fault { result.fault ≡ self }
+    {
         Wrong { place, fault: self }
     }
 

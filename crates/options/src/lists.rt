@@ -1,4 +1,6 @@
 // Lists of decimal numbers with a comma between two, as an address has them.
+ghost use Rattle.std.specs.Prelude.{◌≤◌, IfOk};
+
 use crate::faults::Fault;
 
 // The digits that a number of an address may have.
@@ -24,7 +26,9 @@ fn decimal(digits: &[u8]) -> Option<usize> {
 
 impl List {
     // The list of at most so many numbers that a word is.
-    pub fn parse(word: &[u8], most: usize) -> Result<List, Fault> {
+    pub fn parse(word: &[u8], most: usize) -> Result<List, Fault>
+        ensures { IfOk result (λ list. list.count ≤ most) }
+    {
         if !is_list(word) {
             return Err(Fault::OtherList);
         }

@@ -1,4 +1,6 @@
 // The words of the command line.
+ghost use Rattle.std.specs.Prelude.{◌≡◌, ◌↔◌, IsTrue, MatchResult, codes, take};
+
 use crate::faults::Fault;
 use format::answers::Edition;
 
@@ -19,7 +21,11 @@ pub enum Word {
 }
 
 impl TryFrom<&[u8]> for Word {
+    ghost use Rattle.options.specs.Words.{Spells};
+
     type Error = Fault;
+
+    ghost try_from_gives = { λ word result. MatchResult result (λ asked. Spells asked word.now) (λ _. take 1 word.now ≡ codes "-") };
 
     // What a word asks for.
     fn try_from(word: &[u8]) -> Result<Word, Fault> {
@@ -42,12 +48,17 @@ impl TryFrom<&[u8]> for Word {
 }
 
 // Whether a word is standard input's.
-pub fn is_input(word: &[u8]) -> bool {
+pub fn is_input(word: &[u8]) -> bool
+    ensures { IsTrue result ↔ (word.now ≡ codes "-") }
+{
     matches!(word, b"-")
 }
 
 // The edition that a word names.
-pub fn edition(word: &[u8]) -> Result<Edition, Fault> {
+pub fn edition(word: &[u8]) -> Result<Edition, Fault>
+    ensures old { (result ≡ Ok Edition.Old) ↔ (word.now ≡ codes "old") }
+    ensures new { (result ≡ Ok Edition.New) ↔ (word.now ≡ codes "new") }
+{
     match word {
         b"old" => Ok(Edition::Old),
         b"new" => Ok(Edition::New),

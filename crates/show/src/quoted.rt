@@ -57,7 +57,8 @@ fn length(bytes: &[u8]) -> usize
     }
 }
 
-// The characters that begin among the first bytes, of which there are so many.
+// The characters that begin among the first bytes, of which there are so many. Each step is a character's length, so no
+// `for` fits.
 fn characters(out: &mut Block, bytes: &[u8], begin: usize) {
     let after = bytes.len().saturating_sub(begin);
     let mut left = bytes;

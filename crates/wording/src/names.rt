@@ -1,4 +1,5 @@
 // The names of kinds, marks and extensions' ids, the meanings of refusals, and the ending of a plural.
+// Kinds, marks, ids and refusals come as the numbers by which rows and answers hold them for C.
 ghost use Rattle.std.specs.Prelude.{◌≡◌, ◌≤◌, ◌↔◌, IsSome, length};
 
 // A kind by its number.
