@@ -3,29 +3,30 @@ ghost use Rattle.std.specs.Prelude.{◌≡◌, true};
 ghost use Rattle.format.specs.Answers.{nan_apart};
 ghost use Rattle.values.specs.Answers.{NansApart};
 
-use format::answers::{Found, Located, Value, Valued};
+use format::answers::{Span, Token, Value};
+use format::refusals::Refusal;
 use lines::numbers::stand_at;
 use lines::show::three;
 use std::io;
 
 // A slot's or a text's number, first byte and width.
-pub fn located(rt: &impl Print, answer: Located) -> io::Result<()> {
+pub fn located(rt: &impl Print, answer: Result<Span, Refusal>) -> io::Result<()> {
     match answer {
-        Located::Refused(refusal) => three(rt, refusal as u64, 0, 0),
-        Located::At(first, wide) => three(rt, 0, first as u64, wide as u64),
+        Err(refusal) => three(rt, u64::from(refusal.number()), 0, 0),
+        Ok(Span { first, width }) => three(rt, 0, first as u64, width as u64),
     }
 }
 
 // Whether a part is as wide as the answer says and has the bytes of the message there; an empty part beside a refusal.
-fn fits(message: &[u8], answer: Located, part: &[u8]) -> bool {
+fn fits(message: &[u8], answer: Result<Span, Refusal>, part: &[u8]) -> bool {
     match answer {
-        Located::Refused(_) => part.is_empty(),
-        Located::At(first, wide) => part.len() == wide && stand_at(message, first, part),
+        Err(_) => part.is_empty(),
+        Ok(Span { first, width }) => part.len() == width && stand_at(message, first, part),
     }
 }
 
 // A text's number, first byte and width, and whether the part of the message is another.
-pub fn text(rt: &impl Print, message: &[u8], answer: Located, part: &[u8]) -> io::Result<()> {
+pub fn text(rt: &impl Print, message: &[u8], answer: Result<Span, Refusal>, part: &[u8]) -> io::Result<()> {
     located(rt, answer)?;
     if !fits(message, answer, part) {
         return print!(rt; " another part");
@@ -34,10 +35,10 @@ pub fn text(rt: &impl Print, message: &[u8], answer: Located, part: &[u8]) -> io
 }
 
 // A row's number and the row.
-pub fn found(rt: &impl Print, answer: Found) -> io::Result<()> {
+pub fn found(rt: &impl Print, answer: Result<usize, Refusal>) -> io::Result<()> {
     match answer {
-        Found::Refused(refusal) => print!(rt; "{refusal} 0"),
-        Found::Row(row) => print!(rt; "0 {row}"),
+        Err(refusal) => print!(rt; "{} 0", refusal.number()),
+        Ok(row) => print!(rt; "0 {row}"),
     }
 }
 
@@ -60,12 +61,12 @@ fn value(rt: &impl Print, v: Value) -> io::Result<()>
 }
 
 // A value's number, kind, case and the value.
-pub fn valued(rt: &impl Print, answer: Valued) -> io::Result<()>
+pub fn valued(rt: &impl Print, answer: Result<Token, Refusal>) -> io::Result<()>
     requires { NansApart answer }
 {
     match answer {
-        Valued::Refused(refusal) => print!(rt; "{refusal} 0 null 0"),
-        Valued::Token(token) => {
+        Err(refusal) => print!(rt; "{} 0 null 0", refusal.number()),
+        Ok(token) => {
             print!(rt; "0 {} ", token.kind.number())?;
             value(rt, token.value)
         }

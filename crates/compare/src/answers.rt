@@ -1,6 +1,7 @@
 // Answers, and what goes with them.
-use format::answers::Answer;
 use format::marks::Mark;
+use format::refusals::Refused;
+use second::refusals::Refusal;
 use std::fmt;
 
 // An answer as numbers: number, place and rows used.
@@ -11,20 +12,42 @@ pub struct Numbers {
     pub used: usize,
 }
 
-impl From<Answer> for Numbers {
-    // The numbers of an answer.
-    fn from(a: Answer) -> Numbers {
-        match a {
-            Answer::Done(used) => Numbers {
-                number: 0,
-                place: 0,
-                used,
-            },
-            Answer::Refused(number, place) => Numbers {
-                number,
-                place,
-                used: 0,
-            },
+impl Numbers {
+    // The numbers where rows are used.
+    fn done(used: usize) -> Numbers {
+        Numbers {
+            number: 0,
+            place: 0,
+            used,
+        }
+    }
+
+    // The numbers of a refusal.
+    fn refused(number: u32, place: usize) -> Numbers {
+        Numbers {
+            number,
+            place,
+            used: 0,
+        }
+    }
+}
+
+impl From<Result<usize, Refused>> for Numbers {
+    // The numbers of the reader's answer.
+    fn from(answer: Result<usize, Refused>) -> Numbers {
+        match answer {
+            Ok(used) => Numbers::done(used),
+            Err(Refused(refusal, place)) => Numbers::refused(refusal.number(), place),
+        }
+    }
+}
+
+impl From<Result<usize, Refusal>> for Numbers {
+    // The numbers of the second reader's answer.
+    fn from(answer: Result<usize, Refusal>) -> Numbers {
+        match answer {
+            Ok(used) => Numbers::done(used),
+            Err(refusal) => Numbers::refused(refusal.number(), refusal.place()),
         }
     }
 }

@@ -2,7 +2,7 @@
 use crate::answers::{Numbers, Reading};
 use crate::tally::{Pair, Tally};
 use crate::{buffers, show};
-use format::answers::{Answer, Edition};
+use format::answers::Edition;
 use std::io;
 
 // How many messages are made.
@@ -32,17 +32,17 @@ impl Reader {
     }
 
     // What the reader answers.
-    fn answer(self, edition: Edition, message: &[u8], words: &mut [u32]) -> Answer {
+    fn answer(self, edition: Edition, message: &[u8], words: &mut [u32]) -> Numbers {
         match self {
-            Reader::First => reader::message::read(edition, message, words),
-            Reader::Second => second::read(edition, message, words),
+            Reader::First => Numbers::from(reader::message::read(edition, message, words)),
+            Reader::Second => Numbers::from(second::read(edition, message, words)),
         }
     }
 
     // What the reader gives, over words that are not zero.
     fn reading<'a>(self, edition: Edition, message: &[u8], words: &'a mut [u32]) -> Reading<'a> {
         words.fill(self.filling());
-        let answer = Numbers::from(self.answer(edition, message, words));
+        let answer = self.answer(edition, message, words);
         Reading { answer, words }
     }
 }

@@ -3,7 +3,8 @@ ghost use Rattle.values.specs.Answers.{NansApart};
 
 use crate::shape;
 use addresses::calls::{packed_slot, table_slot};
-use format::answers::{Located, Valued};
+use format::answers::{Span, Token};
+use format::refusals::Refusal;
 use slots::text::number_in_table;
 use slots::value::{value_in_packed, value_in_table};
 
@@ -15,7 +16,7 @@ pub fn located(
     leaf: usize,
     indexes: &[usize],
     count: usize,
-) -> Located {
+) -> Result<Span, Refusal> {
     let asked = &indexes[..count.min(indexes.len())];
     if shape::is_packed(rows, row) {
         return packed_slot(rows, size, row, asked);
@@ -24,7 +25,7 @@ pub fn located(
 }
 
 // The slot of an element or a record by its number.
-pub fn slot(rows: &[u32], size: u32, row: usize, leaf: usize, number: usize) -> Located {
+pub fn slot(rows: &[u32], size: u32, row: usize, leaf: usize, number: usize) -> Result<Span, Refusal> {
     let indexes = shape::indexes(rows, row, number);
     let n = shape::rank(rows, row);
     located(rows, size, row, leaf, &indexes, n)
@@ -38,7 +39,7 @@ pub fn valued(
     leaf: usize,
     indexes: &[usize],
     count: usize,
-) -> Valued
+) -> Result<Token, Refusal>
     ensures { NansApart result }
 {
     let asked = &indexes[..count.min(indexes.len())];
@@ -49,7 +50,7 @@ pub fn valued(
 }
 
 // The value of an element or a record by its number.
-pub fn value(message: &[u8], rows: &[u32], row: usize, leaf: usize, number: usize) -> Valued
+pub fn value(message: &[u8], rows: &[u32], row: usize, leaf: usize, number: usize) -> Result<Token, Refusal>
     ensures { NansApart result }
 {
     let indexes = shape::indexes(rows, row, number);
@@ -65,13 +66,13 @@ pub fn texted(
     leaf: usize,
     indexes: &[usize],
     count: usize,
-) -> Located {
+) -> Result<Span, Refusal> {
     let asked = &indexes[..count.min(indexes.len())];
     number_in_table(message, rows, row, leaf, asked)
 }
 
 // The text of a record by its number.
-pub fn text(message: &[u8], rows: &[u32], row: usize, leaf: usize, number: usize) -> Located {
+pub fn text(message: &[u8], rows: &[u32], row: usize, leaf: usize, number: usize) -> Result<Span, Refusal> {
     let indexes = shape::indexes(rows, row, number);
     let n = shape::rank(rows, row);
     texted(message, rows, row, leaf, &indexes, n)

@@ -1,5 +1,6 @@
 // What the rewriter answers, as a line.
-use format::answers::{Answer, Edition};
+use format::answers::Edition;
+use format::refusals::Refused;
 use lines::show::three;
 use std::io;
 
@@ -64,12 +65,12 @@ fn done(
 // The line of a refusal: rows and output must be zero.
 fn refused(
     rt: &impl Print,
-    number: u32,
-    place: usize,
+    why: Refused,
     rows: &[u32],
     output: &[u8],
 ) -> io::Result<()> {
-    three(rt, number as u64, place as u64, 0)?;
+    let Refused(refusal, place) = why;
+    three(rt, u64::from(refusal.number()), place as u64, 0)?;
     print!(rt; " -")?;
     end(
         rt,
@@ -91,7 +92,7 @@ pub fn line(
     read.fill(0x5555_5555);
     output.fill(0xAA);
     match rewriter::message::rewrite(edition, message, rows, output) {
-        Answer::Done(written) => done(rt, edition, message, rows, read, output, written),
-        Answer::Refused(refusal, place) => refused(rt, refusal, place, rows, output),
+        Ok(written) => done(rt, edition, message, rows, read, output, written),
+        Err(why) => refused(rt, why, rows, output),
     }
 }

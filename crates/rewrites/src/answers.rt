@@ -1,5 +1,5 @@
 // Answers, and the calls that give them: each over words and bytes that are not zero.
-use format::answers::{Answer, Edition};
+use format::answers::Edition;
 
 // A refusal's number and place.
 #[derive(Clone, Copy, PartialEq)]
@@ -8,11 +8,11 @@ pub struct Refused(pub u32, pub usize);
 // Rows used or bytes written, or a refusal.
 pub type Answered = Result<usize, Refused>;
 
-// An answer as a result.
-fn answered(a: Answer) -> Answered {
-    match a {
-        Answer::Done(size) => Ok(size),
-        Answer::Refused(number, place) => Err(Refused(number, place)),
+// An answer of the reader or the rewriter.
+fn answered(answer: Result<usize, format::refusals::Refused>) -> Answered {
+    match answer {
+        Ok(size) => Ok(size),
+        Err(format::refusals::Refused(refusal, place)) => Err(Refused(refusal.number(), place)),
     }
 }
 
@@ -25,7 +25,10 @@ pub fn by_reader(message: &[u8], rows: &mut [u32]) -> Answered {
 // What the second reader answers.
 pub fn by_second(message: &[u8], rows: &mut [u32]) -> Answered {
     rows.fill(0x5555_5555);
-    answered(second::read(Edition::New, message, rows))
+    match second::read(Edition::New, message, rows) {
+        Ok(used) => Ok(used),
+        Err(refusal) => Err(Refused(refusal.number(), refusal.place())),
+    }
 }
 
 // What the rewriter answers.

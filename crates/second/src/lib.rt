@@ -11,14 +11,14 @@ mod integers;
 mod machine;
 mod numbers;
 mod payloads;
-mod refusals;
+pub mod refusals;
 mod schema;
 mod table;
 mod token;
 mod values;
 mod vectors;
 
-use format::answers::{Answer, Edition};
+use format::answers::Edition;
 use frames::{Frame, MESSAGE, Task};
 use machine::Machine;
 use refusals::{Reason, Refusal};
@@ -83,22 +83,22 @@ fn run(m: &mut Machine<'_, '_>) -> Result<(), Refusal> {
     }
 }
 
-// What the machine ends with: the rows used, or a refusal's number and place. Rows that aren't filled are zero, on refusal all.
-fn answer(m: &mut Machine<'_, '_>) -> Answer {
+// What the machine ends with: the rows used, or a refusal. Rows that aren't filled are zero, on refusal all.
+fn answer(m: &mut Machine<'_, '_>) -> Result<usize, Refusal> {
     match run(m) {
         Ok(()) => {
             m.rows.clear(m.row);
-            Answer::Done(m.row as usize)
+            Ok(m.row as usize)
         }
         Err(refusal) => {
             m.rows.clear(0);
-            Answer::Refused(refusal.number(), refusal.place())
+            Err(refusal)
         }
     }
 }
 
-// Reads a message of an edition into lent rows: the rows used, or a refusal's number and place.
-pub fn read(edition: Edition, message: &[u8], rows: &mut [u32]) -> Answer {
+// Reads a message of an edition into lent rows: the rows used, or a refusal.
+pub fn read(edition: Edition, message: &[u8], rows: &mut [u32]) -> Result<usize, Refusal> {
     let extensions = matches!(edition, Edition::New);
     let mut m = Machine::new(message, rows, extensions);
     answer(&mut m)

@@ -1,6 +1,7 @@
 // An accepted message with its rows, and what the calls answer in its slots.
 use crate::entries::Entry;
-use format::answers::{Located, Valued};
+use format::answers::{Span, Token};
+use format::refusals::Refusal;
 use grid::{ask, shape};
 
 // A message, and the rows that the reader stored of it.
@@ -17,17 +18,17 @@ impl<'a> Accepted<'a> {
     }
 
     // The slot of an entry.
-    pub fn slot(self, entry: Entry) -> Located {
+    pub fn slot(self, entry: Entry) -> Result<Span, Refusal> {
         ask::slot(self.rows, self.size(), entry.row, entry.leaf, entry.number)
     }
 
     // The value in it.
-    pub fn value(self, entry: Entry) -> Valued {
+    pub fn value(self, entry: Entry) -> Result<Token, Refusal> {
         ask::value(self.message, self.rows, entry.row, entry.leaf, entry.number)
     }
 
     // The text in it.
-    pub fn text(self, entry: Entry) -> Located {
+    pub fn text(self, entry: Entry) -> Result<Span, Refusal> {
         ask::text(self.message, self.rows, entry.row, entry.leaf, entry.number)
     }
 

@@ -3,7 +3,7 @@ use crate::accepted::Accepted;
 use crate::entries::List;
 use crate::tally::{Tally, count};
 use crate::{changes, payload, readings};
-use format::answers::{Answer, Edition};
+use format::answers::Edition;
 use generate::ROOM;
 use memory::filled;
 use rows::ROW_WORDS;
@@ -63,9 +63,8 @@ fn one(number: u64, lent: &mut Lent, t: &mut Tally) {
     let rows = &mut all_rows[..words];
     let other = &mut lent.other[..];
     let again = &mut lent.again[..];
-    match reader::message::read(Edition::New, message, rows) {
-        Answer::Refused(_, _) => {}
-        Answer::Done(used) => accepted(
+    if let Ok(used) = reader::message::read(Edition::New, message, rows) {
+        accepted(
             number,
             Accepted { message, rows },
             used,
@@ -73,7 +72,7 @@ fn one(number: u64, lent: &mut Lent, t: &mut Tally) {
             &mut again[..words],
             &mut lent.list,
             t,
-        ),
+        );
     }
 }
 

@@ -1,19 +1,14 @@
 // Addresses that name no slot: each must be refused with the number that document 01 says.
 use crate::payload::Payload;
-use crate::same::is_refusal;
 use crate::tally::{Tally, count};
 use addresses::calls::{packed_slot, table_slot};
-use format::answers::Located;
+use format::answers::Span;
+use format::refusals::Refusal;
 use grid::shape;
 
-// No such address, and rows that don't fit the request.
-const NOT_THERE: u32 = 10;
-
-const DONT_FIT: u32 = 12;
-
 // Counts an answer that must be this refusal.
-fn refused(answer: Located, number: u32, t: &mut Tally) {
-    t.expect(is_refusal(answer, number));
+fn refused(answer: Result<Span, Refusal>, why: Refusal, t: &mut Tally) {
+    t.expect(answer == Err(why));
     count(&mut t.outside);
 }
 
@@ -23,12 +18,12 @@ fn counts(payload: Payload<'_>, leaf: usize, t: &mut Tally) {
     let n = payload.rank();
     let short = payload.located(leaf, &indexes, n.saturating_sub(1));
     let long = payload.located(leaf, &indexes, n.saturating_add(1));
-    refused(short, NOT_THERE, t);
-    refused(long, NOT_THERE, t);
+    refused(short, Refusal::NotThere, t);
+    refused(long, Refusal::NotThere, t);
 }
 
 // The slot of the address with every index 0 but one, which is as large as its dimension.
-fn past(payload: Payload<'_>, leaf: usize, j: usize) -> Located {
+fn past(payload: Payload<'_>, leaf: usize, j: usize) -> Result<Span, Refusal> {
     let mut indexes = [0usize; 9];
     if let Some(index) = indexes.get_mut(j) {
         *index = shape::extent(payload.rows, payload.row, j);
@@ -39,7 +34,7 @@ fn past(payload: Payload<'_>, leaf: usize, j: usize) -> Located {
 // An index as large as its dimension, for each index.
 fn ranges(payload: Payload<'_>, leaf: usize, t: &mut Tally) {
     for j in 0..payload.rank() {
-        refused(past(payload, leaf, j), NOT_THERE, t);
+        refused(past(payload, leaf, j), Refusal::NotThere, t);
     }
 }
 
@@ -48,7 +43,7 @@ fn stranger(payload: Payload<'_>, leaf: usize, t: &mut Tally) {
     if !payload.is_packed() {
         let indexes = [0usize; 9];
         let answer = payload.located(leaf, &indexes, payload.rank());
-        refused(answer, DONT_FIT, t);
+        refused(answer, Refusal::RowsDontFit, t);
     }
 }
 
@@ -74,10 +69,10 @@ pub fn other_kinds(payload: Payload<'_>, t: &mut Tally) {
     let Payload { rows, size, row } = payload;
     let index = [0usize; 1];
     if !payload.is_packed() {
-        refused(packed_slot(rows, size, row, &index), DONT_FIT, t);
+        refused(packed_slot(rows, size, row, &index), Refusal::RowsDontFit, t);
     }
     if !payload.is_table() {
         let leaf = row.saturating_add(3);
-        refused(table_slot(rows, size, row, leaf, &index), DONT_FIT, t);
+        refused(table_slot(rows, size, row, leaf, &index), Refusal::RowsDontFit, t);
     }
 }

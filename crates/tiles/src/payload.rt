@@ -2,7 +2,8 @@
 use crate::entries::List;
 use crate::tally::{Tally, count};
 use crate::{order, outside, tiling};
-use format::answers::Located;
+use format::answers::Span;
+use format::refusals::Refusal;
 use grid::{ask, shape};
 
 // Its message's rows and size, and its row.
@@ -45,7 +46,7 @@ impl<'a> Payload<'a> {
     }
 
     // The slot of an address with so many indexes.
-    pub fn located(self, leaf: usize, indexes: &[usize], count: usize) -> Located {
+    pub fn located(self, leaf: usize, indexes: &[usize], count: usize) -> Result<Span, Refusal> {
         ask::located(self.rows, self.size, self.row, leaf, indexes, count)
     }
 

@@ -1,5 +1,6 @@
 // Whether two answers are the same.
-use format::answers::{Located, Value, Valued};
+use format::answers::{Token, Value};
+use format::refusals::Refusal;
 
 // A value answer by numbers: the token's kind, the value's case, and what the case holds.
 #[derive(Clone, Copy, Default, PartialEq)]
@@ -50,10 +51,10 @@ fn value_content(value: Value) -> Content {
 }
 
 // A value answer by numbers; a refusal's number has a case of its own.
-fn content_of(answer: Valued) -> Content {
+fn content_of(answer: Result<Token, Refusal>) -> Content {
     match answer {
-        Valued::Refused(number) => whole(0, u64::from(number)),
-        Valued::Token(token) => {
+        Err(refusal) => whole(0, u64::from(refusal.number())),
+        Ok(token) => {
             let mut c = value_content(token.value);
             c.kind = token.kind.number();
             c
@@ -61,36 +62,7 @@ fn content_of(answer: Valued) -> Content {
     }
 }
 
-// Whether the answer is a value.
-pub fn is_value(answer: Valued) -> bool {
-    matches!(&answer, Valued::Token(_))
-}
-
 // Whether two value answers are the same.
-pub fn same_value(a: Valued, b: Valued) -> bool {
+pub fn same_value(a: Result<Token, Refusal>, b: Result<Token, Refusal>) -> bool {
     content_of(a) == content_of(b)
-}
-
-// Whether the answer is this slot.
-pub fn is_slot(answer: Located, first: usize, width: usize) -> bool {
-    match answer {
-        Located::At(f, w) => f == first && w == width,
-        Located::Refused(_) => false,
-    }
-}
-
-// Whether the answer is this refusal.
-pub fn is_refusal(answer: Located, number: u32) -> bool {
-    match answer {
-        Located::At(_, _) => false,
-        Located::Refused(n) => n == number,
-    }
-}
-
-// Whether two slot answers are the same.
-pub fn same_slot(a: Located, b: Located) -> bool {
-    match a {
-        Located::At(first, width) => is_slot(b, first, width),
-        Located::Refused(number) => is_refusal(b, number),
-    }
 }

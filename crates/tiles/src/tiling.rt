@@ -2,7 +2,7 @@
 use crate::entries::{Entry, List};
 use crate::payload::Payload;
 use crate::tally::{Tally, count};
-use format::answers::Located;
+use format::answers::Span;
 use grid::{ask, shape};
 
 // Asks for the slot of an element or a record; refused, or of another width than the rows say, is a fault. A refused one is listed as
@@ -11,11 +11,11 @@ pub fn entry(payload: Payload<'_>, leaf: usize, number: usize, t: &mut Tally) ->
     let Payload { rows, size, row } = payload;
     count(&mut t.asked);
     let (first, width) = match ask::slot(rows, size, row, leaf, number) {
-        Located::Refused(_) => {
+        Err(_) => {
             t.expect(false);
             (0, 0)
         }
-        Located::At(first, width) => {
+        Ok(Span { first, width }) => {
             t.expect(width == shape::wide(rows, row, leaf));
             t.mix(first);
             t.mix(width);

@@ -1,5 +1,6 @@
 // What the reader answers, as a line.
-use format::answers::{Answer, Edition};
+use format::answers::Edition;
+use format::refusals::Refused;
 use lines::show::three;
 use rows::ROW_WORDS;
 use std::io;
@@ -45,13 +46,13 @@ fn end(rt: &impl Print, rows: &[u32], used: usize) -> io::Result<()> {
 // Reads the message, and writes the line.
 pub fn line(rt: &impl Print, edition: Edition, message: &[u8], rows: &mut [u32]) -> io::Result<()> {
     match reader::message::read(edition, message, rows) {
-        Answer::Done(used) => {
+        Ok(used) => {
             three(rt, 0, 0, used as u64)?;
             rows_used(rt, rows, used)?;
             end(rt, rows, used)
         }
-        Answer::Refused(refusal, place) => {
-            three(rt, refusal as u64, place as u64, 0)?;
+        Err(Refused(refusal, place)) => {
+            three(rt, u64::from(refusal.number()), place as u64, 0)?;
             end(rt, rows, 0)
         }
     }
