@@ -5,4 +5,3 @@ pub mod names;
 pub mod row;
 pub mod tree;
 pub mod verdict;
-pub mod words;

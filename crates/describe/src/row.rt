@@ -1,177 +1,174 @@
 // A row in words.
-use crate::words;
-use crate::words::say;
-use format::answers::Located;
+ghost use Rattle.std.specs.Prelude.{◌≡◌, ◌↔◌};
+
+use format::answers::{Kind, Located};
 use format::marks::Mark;
-use grid::held::{has_slots, is_cut};
 use grid::shape;
-use numbers::{least, sum};
-use rows::{Row, count, load};
+use navigate::message::{Message, kind_of};
+use rows::Row;
 use show::dump;
 use show::quoted::quoted;
 use show::scalars::{refused, valued};
+use std::fmt;
+use std::fmt::{Display, Formatter, Write};
 use texts::at_rows::number_at_row;
 use values::at_rows::value_at_row;
 use wording::block::Block;
-use wording::names;
-use wording::phrases::{Phrase, plain, with};
+use wording::names::{id, mark, plural};
 
-// The kinds that are told apart here.
-const SCALAR: u32 = 1;
+// What a packed array or a table has: elements or records.
+#[derive(Clone, Copy, PartialEq, Eq)]
+pub enum Unit {
+    Element,
+    Record,
+}
 
-const KEY: u32 = 4;
+impl Unit {
+    // What a packed array or a table has, by its row.
+    pub fn of(r: Row) -> Unit
+        ensures { (result ≡ Unit.Record) ↔ (r.kind ≡ 8) }
+    {
+        match kind_of(r) {
+            Some(Kind::Table) => Unit::Record,
+            _ => Unit::Element,
+        }
+    }
+}
 
-const PACKED: u32 = 7;
+impl Display for Unit {
+    fn fmt<W: Write>(&self, f: &mut Formatter<W>) -> fmt::Result {
+        f.write_str(match self {
+            Unit::Element => "element",
+            Unit::Record => "record",
+        })
+    }
+}
 
-const TABLE: u32 = 8;
+// Where a row's value stands in a record.
+#[derive(Clone, Copy)]
+struct InRecord(Row);
 
-const LEAF: u32 = 9;
-
-const DIMENSION: u32 = 12;
-
-const EXTENSION: u32 = 13;
+impl Display for InRecord {
+    fn fmt<W: Write>(&self, f: &mut Formatter<W>) -> fmt::Result {
+        let offset = self.0.payload;
+        let width = self.0.extent;
+        write!(f, ", offset {offset}, width {width}")
+    }
+}
 
 // The text that a call located, in quotes.
-pub fn located(message: &[u8], answer: Located, out: &mut Block, at: usize) -> usize {
+pub fn located(message: &[u8], answer: Located, out: &mut Block) {
     match answer {
-        Located::At(first, width) => quoted(out, at, message, first, width),
-        Located::Refused(number) => refused(out, at, number),
+        Located::At(first, width) => quoted(out, message, first, width),
+        Located::Refused(number) => refused(out, number),
     }
 }
 
 // The text at a row.
-pub fn text_at(message: &[u8], rows: &[u32], row: usize, out: &mut Block, at: usize) -> usize {
-    located(message, number_at_row(message, rows, row), out, at)
+pub fn text_at(message: Message, row: usize, out: &mut Block) {
+    let answer = number_at_row(message.bytes, message.rows, row);
+    located(message.bytes, answer, out);
 }
 
-// The phrase that a row begins with.
-fn line(r: Row) -> usize {
-    let kind = r.kind;
-    if kind == TABLE && r.mark != Mark::ARRAY as u32 {
-        return words::COLUMNS;
+// What a row begins with.
+fn beginning(r: Row, out: &mut Block) {
+    let count = r.count;
+    let s = plural(count as usize);
+    let mark = mark(r.mark as usize);
+    match kind_of(r) {
+        Some(Kind::Scalar) => write!(out, "scalar {mark} = "),
+        Some(Kind::Text) => out.text(b"text "),
+        Some(Kind::HighPrecision) => out.text(b"number "),
+        Some(Kind::Key) => out.text(b"key "),
+        Some(Kind::Array) => write!(out, "array, {count} value{s}"),
+        Some(Kind::Object) => write!(out, "object, {count} pair{s}"),
+        Some(Kind::Packed) => write!(out, "packed {mark}, "),
+        Some(Kind::Table) if r.mark == Mark::ARRAY as u32 => out.text(b"table by rows, "),
+        Some(Kind::Table) => out.text(b"table by columns, "),
+        Some(Kind::Leaf) => write!(out, "leaf {mark}{}", InRecord(r)),
+        Some(Kind::SchemaRecord) => write!(out, "record, {count} field{s}{}", InRecord(r)),
+        Some(Kind::FixedArray) => write!(out, "fixed array, {count} kind{s}{}", InRecord(r)),
+        Some(Kind::Dimension) => write!(out, "dimension {mark} = {count}"),
+        Some(Kind::Extension) => write!(out, "extension {count}"),
+        None => write!(out, "no kind, {count} kind{s}{}", InRecord(r)),
     }
-    if EXTENSION < kind {
-        return words::KINDS;
-    }
-    kind as usize
-}
-
-// Its first number: the mark, where the phrase has it, or the count.
-fn first(r: Row) -> usize {
-    let kind = r.kind;
-    if kind == SCALAR || kind == PACKED || kind == LEAF || kind == DIMENSION {
-        return r.mark as usize;
-    }
-    r.count as usize
-}
-
-// Its second number: a dimension's, or the offset in a record.
-fn second(r: Row) -> usize {
-    if r.kind == DIMENSION {
-        return r.count as usize;
-    }
-    r.payload as usize
-}
-
-// What a row begins with; its third number is the width in a record.
-fn beginning(r: Row) -> Phrase {
-    with(line(r), first(r), second(r), r.extent as usize)
 }
 
 // The dimensions, with a sign between two.
-fn dimensions(rows: &[u32], row: usize, out: &mut Block, at: usize) -> usize {
-    let n = shape::rank(rows, row);
-    let mut next = wording::digits::number(out, at, shape::extent(rows, row, 0));
-    let mut j: usize = 1;
-    while j < n {
-        let extent = shape::extent(rows, row, j);
-        next = say(out, next, with(words::DIMENSION, extent, 0, 0));
-        j += 1;
+fn dimensions(rows: &[u32], row: usize, out: &mut Block) {
+    write!(out, "{}", shape::extent(rows, row, 0));
+    for j in 1..shape::rank(rows, row) {
+        write!(out, " x {}", shape::extent(rows, row, j));
     }
-    next
 }
 
-// The phrase of a shape: of elements or of records; by the count, the count where not all of the rows are held, or the dimensions.
-fn shape_line(r: Row, cut: bool) -> usize {
-    let of = (r.kind % 2) as usize;
-    let line = words::SHAPE + 4 - of * 4;
-    if cut {
-        return line + 1;
+// How many elements or records there are: with the dimensions and their order, if all of the rows are held.
+fn shape_of(message: Message, row: usize, r: Row, out: &mut Block) {
+    let count = r.count;
+    let unit = Unit::of(r);
+    let s = plural(count as usize);
+    if message.is_cut(r) {
+        write!(out, "{count} {unit}{s}, not all of its rows held");
+        return;
     }
     if r.order == 0 {
-        return line;
+        write!(out, "{count} {unit}{s}");
+        return;
     }
-    if r.order == 1 {
-        return line + 2;
-    }
-    line + 3
-}
-
-// A count, or the dimensions and their product.
-fn shape_of(rows: &[u32], row: usize, r: Row, cut: bool, out: &mut Block, at: usize) -> usize {
-    let p = with(shape_line(r, cut), r.count as usize, 0, 0);
-    if cut || r.order == 0 {
-        return say(out, at, p);
-    }
-    let shown = dimensions(rows, row, out, at);
-    say(out, shown, p)
+    let slowest = r.order == 1;
+    let pace = if slowest { "slowest" } else { "fastest" };
+    dimensions(message.rows, row, out);
+    write!(out, " = {count} {unit}{s}, first index {pace}");
 }
 
 // The shape of a packed array or a table, and how wide a table's records are.
-fn shaped(rows: &[u32], row: usize, r: Row, out: &mut Block, at: usize) -> usize {
-    let cut = is_cut(count(rows), r);
-    let shown = shape_of(rows, row, r, cut, out, at);
-    if cut || r.kind == PACKED {
-        return shown;
+fn shaped(message: Message, row: usize, r: Row, out: &mut Block) {
+    shape_of(message, row, r, out);
+    if message.is_cut(r) || Unit::of(r) == Unit::Element {
+        return;
     }
-    let schema = load(rows, sum(row, 1));
-    say(out, shown, with(words::EACH, schema.extent as usize, 0, 0))
+    let width = message.row(row.saturating_add(1)).extent;
+    write!(out, ", each of {width} byte{}", plural(width as usize));
 }
 
 // The bytes of an extension's payload; of more than a line's the first, and how many there are.
-fn payload(message: &[u8], r: Row, out: &mut Block, at: usize) -> usize {
+fn payload(message: &[u8], r: Row, out: &mut Block) {
     let first = r.payload as usize;
     let length = r.extent as usize;
     if length == 0 {
-        return say(out, at, plain(words::NO_PAYLOAD));
+        out.text(b", no payload");
+        return;
     }
-    let equal = say(out, at, plain(words::BYTES));
-    let end = sum(first, least(length, dump::WIDE));
-    let shown = dump::cells(out, equal, message, first, end);
-    if length <= dump::WIDE {
-        return shown;
+    out.text(b" =");
+    dump::cells(out, message, first, first + length.min(dump::WIDE));
+    if dump::WIDE < length {
+        write!(out, "... ({length} bytes)");
     }
-    say(out, shown, with(words::PAYLOAD, length, 0, 0))
 }
 
-// The name of an extension's id, and its payload.
-fn extension(message: &[u8], r: Row, out: &mut Block, at: usize) -> usize {
-    let named = names::id(out, at, r.count as usize);
-    payload(message, r, out, named)
+// The name of an extension's id, if it has one, and its payload.
+fn extension(message: &[u8], r: Row, out: &mut Block) {
+    if let Some(name) = id(r.count as usize) {
+        write!(out, " {name}");
+    }
+    payload(message, r, out);
 }
 
 // A row.
-pub fn shown(message: &[u8], rows: &[u32], row: usize, out: &mut Block, at: usize) -> usize {
-    let r = load(rows, row);
-    let kind = r.kind;
-    let begun = say(out, at, beginning(r));
-    if kind == SCALAR {
-        return valued(out, begun, value_at_row(message, rows, row));
+pub fn shown(message: Message, row: usize, out: &mut Block) {
+    let r = message.row(row);
+    beginning(r, out);
+    match kind_of(r) {
+        Some(Kind::Scalar) => valued(out, value_at_row(message.bytes, message.rows, row)),
+        Some(Kind::Text | Kind::HighPrecision | Kind::Key) => text_at(message, row, out),
+        Some(Kind::Packed | Kind::Table) => shaped(message, row, r, out),
+        Some(Kind::Extension) => extension(message.bytes, r, out),
+        _ => {}
     }
-    if SCALAR < kind && kind <= KEY {
-        return text_at(message, rows, row, out, begun);
-    }
-    if has_slots(r) {
-        return shaped(rows, row, r, out, begun);
-    }
-    if kind == EXTENSION {
-        return extension(message, r, out, begun);
-    }
-    begun
 }
 
 // A row's number, and the row.
-pub fn numbered(message: &[u8], rows: &[u32], number: usize, out: &mut Block, at: usize) -> usize {
-    let begun = say(out, at, with(words::ROW, number, 0, 0));
-    shown(message, rows, number, out, begun)
+pub fn numbered(message: Message, row: usize, out: &mut Block) {
+    write!(out, "row {row}: ");
+    shown(message, row, out);
 }

@@ -1,33 +1,21 @@
 // The program's buffers, of which a caller knows the length alone.
-ghost use Rattle.std.specs.Prelude.{◌≡◌, length};
 
 // The rows that the program holds.
 pub const ROWS: usize = 131_072;
 
-// For a message; one byte over the limit, so that a longer one is refused.
-pub fn message() -> [u8; 1048577]
-    ensures { 1048577 ≡ length result }
-{
-    [0; 1048577]
-}
+// The words of these.
+pub const WORDS: usize = 1_310_720;
 
-// For the rows.
-pub fn rows() -> [u32; 1310720]
-    ensures { 1310720 ≡ length result }
-{
-    [0; 1310720]
-}
+// The bytes of a message; one over the limit, so that a longer one is refused.
+pub const MESSAGE: usize = 1_048_577;
 
-// For a message in house form.
-pub fn house() -> [u8; 1048576]
-    ensures { 1048576 ≡ length result }
-{
-    [0; 1048576]
-}
+// The bytes of a message in house form.
+pub const HOUSE: usize = 1_048_576;
 
-// For a block of output.
-pub fn block() -> [u8; 65536]
-    ensures { 65536 ≡ length result }
-{
-    [0; 65536]
+// The bytes of a block of output.
+pub const BLOCK: usize = 65_536;
+
+// So many zeros.
+pub fn zeros<T: Copy + Default, const N: usize>() -> [T; N] {
+    [T::default(); N]
 }

@@ -1,100 +1,39 @@
 // The files that the command line names.
+ghost use Rattle.std.specs.Prelude.{◌≤◌, length};
+
 use crate::messages;
-use numbers::{least, sum};
-use options::arguments::Asked;
+use options::arguments::{Asked, count, word};
+use options::help;
 use options::words::is_input;
-use options::{arguments, help};
 use show::quoted::plain;
 use std::fs::File;
 use std::io;
 use std::io::Read;
-use wording::block;
-use wording::block::{Block, flush};
-
-// Reads until the room is full, the input ends or a read fails; answers how many bytes were read, unless a read failed.
-fn read(from: &mut impl Read, room: &mut [u8]) -> io::Result<usize> {
-    let mut count: usize = 0;
-    while count < room.len() {
-        let got = from.read(&mut room[count..])?;
-        let next = sum(count, got);
-        if next <= count {
-            return Ok(count);
-        }
-        count = next;
-    }
-    Ok(count)
-}
-
-// Says why the file of this name can't be read.
-fn fail(name: &[u8], why: io::Error, out: &mut Block) {
-    let end = plain(out, 0, name);
-    block::fail(out, end, why);
-}
-
-// A message under a name: in house form, or shown.
-fn message_named(
-    rt: &HostRuntime,
-    name: &[u8],
-    asked: Asked,
-    message: &[u8],
-    rows: &mut [u32],
-    house: &mut [u8],
-    out: &mut Block,
-) {
-    if asked.house {
-        messages::rewritten(name, message, rows, house, asked, out);
-        return;
-    }
-    let named = plain(out, 0, name);
-    let end = messages::shown(rt, message, rows, asked, out, named);
-    flush(out, end);
-}
-
-// The message that a reader has, under a name.
-fn message_of(
-    rt: &HostRuntime,
-    name: &[u8],
-    from: &mut impl Read,
-    asked: Asked,
-    message: &mut [u8],
-    rows: &mut [u32],
-    house: &mut [u8],
-    out: &mut Block,
-) {
-    match read(from, message) {
-        Ok(count) => {
-            let n = least(count, message.len());
-            message_named(rt, name, asked, &message[..n], rows, house, out);
-        }
-        Err(why) => {
-            fail(name, why, out);
-        }
-    }
-}
-
-// Standard input.
-fn input(
-    rt: &HostRuntime,
-    asked: Asked,
-    message: &mut [u8],
-    rows: &mut [u32],
-    house: &mut [u8],
-    out: &mut Block,
-) {
-    message_of(
-        rt,
-        b"standard input",
-        &mut rt.stdin(),
-        asked,
-        message,
-        rows,
-        house,
-        out,
-    );
-}
+use wording::block::Block;
 
 // The system's number for the error of bytes that are no text.
 const NO_TEXT: i32 = 84;
+
+// The system, the memory for a message's rows and its house form, and where output goes.
+#[derive(Drop)]
+pub struct Program<'a> {
+    pub rt: &'a HostRuntime,
+    pub rows: &'a mut [u32],
+    pub house: &'a mut [u8],
+    pub out: Block<'a>,
+}
+
+// Reads until the room is full, the input ends or a read fails; answers what was read, unless a read failed.
+fn read<'r>(from: &mut impl Read, room: &'r mut [u8]) -> io::Result<&'r [u8]> {
+    let mut count = 0;
+    while count < room.len() {
+        match from.read(&mut room[count..])? {
+            0 => break,
+            got => count += got,
+        }
+    }
+    Ok(&room[..count])
+}
 
 // The file of a name, which must be text.
 fn open(rt: &HostRuntime, name: &[u8]) -> io::Result<File> {
@@ -104,95 +43,74 @@ fn open(rt: &HostRuntime, name: &[u8]) -> io::Result<File> {
     }
 }
 
-// The file of argument i, if it is a file's.
-fn file(
-    rt: &HostRuntime,
-    i: usize,
-    is_file: bool,
-    asked: Asked,
-    message: &mut [u8],
-    rows: &mut [u32],
-    house: &mut [u8],
-    out: &mut Block,
-) {
-    if !is_file {
-        return;
+impl<'a> Program<'a> {
+    // Says why the file of this name can't be read.
+    fn fail(&mut self, name: &[u8], why: io::Error) {
+        plain(&mut self.out, name);
+        self.out.fail(why);
     }
-    let mut name = [0u8; 4096];
-    let n = arguments::word(rt, i, &mut name);
-    if is_input(&name[..n]) {
-        input(rt, asked, message, rows, house, out);
-        return;
-    }
-    match open(rt, &name[..n]) {
-        Ok(mut file) => {
-            message_of(rt, &name[..n], &mut file, asked, message, rows, house, out);
+
+    // A message under a name: in house form, or shown.
+    fn named(&mut self, name: &[u8], message: &[u8], asked: &Asked) {
+        let out = &mut self.out;
+        let rows = &mut *self.rows;
+        if asked.house {
+            let house = &mut *self.house;
+            messages::rewritten(name, message, rows, house, asked, out);
+            return;
         }
-        Err(why) => {
-            fail(&name[..n], why, out);
+        plain(out, name);
+        messages::shown(self.rt, message, rows, asked, out);
+        out.flush();
+    }
+
+    // The message that a reader has, under a name, read into its room.
+    fn message_of(&mut self, name: &[u8], from: &mut impl Read, room: &mut [u8], asked: &Asked) {
+        match read(from, room) {
+            Ok(message) => self.named(name, message, asked),
+            Err(why) => self.fail(name, why),
         }
     }
-}
 
-// Each file of so many arguments.
-fn each(
-    rt: &HostRuntime,
-    count: usize,
-    asked: Asked,
-    message: &mut [u8],
-    rows: &mut [u32],
-    house: &mut [u8],
-    out: &mut Block,
-) {
-    let mut so_far = arguments::none();
-    let mut i: usize = 1;
-    while i < count {
-        let before = so_far.files;
-        so_far = arguments::with(rt, so_far, i, count);
-        file(
-            rt,
-            i,
-            before < so_far.files,
-            asked,
-            message,
-            rows,
-            house,
-            out,
-        );
-        i += 1;
+    // Standard input.
+    fn input(&mut self, room: &mut [u8], asked: &Asked) {
+        let mut input = self.rt.stdin();
+        self.message_of(b"standard input", &mut input, room, asked);
     }
-}
 
-// Whether no file is looked at: an argument is bad, which is said, or help is asked for, which is shown.
-fn is_answered(rt: &HostRuntime, asked: Asked, out: &mut Block) -> bool {
-    if asked.bad != 0 {
-        help::bad(rt, out, asked.bad, asked.why);
-        return true;
+    // The file of a name.
+    fn file(&mut self, name: &[u8], room: &mut [u8], asked: &Asked) {
+        if is_input(name) {
+            self.input(room, asked);
+            return;
+        }
+        match open(self.rt, name) {
+            Ok(mut file) => self.message_of(name, &mut file, room, asked),
+            Err(why) => self.fail(name, why),
+        }
     }
-    if asked.help {
-        let end = help::all(out, 0);
-        flush(out, end);
-        return true;
-    }
-    false
-}
 
-// Each file, or standard input where none is named; or help.
-pub fn all(
-    rt: &HostRuntime,
-    message: &mut [u8],
-    rows: &mut [u32],
-    house: &mut [u8],
-    out: &mut Block,
-) {
-    let count = arguments::count(rt);
-    let asked = arguments::all(rt, count);
-    if is_answered(rt, asked, out) {
-        return;
+    // Each file of so many arguments.
+    fn each(&mut self, count: usize, room: &mut [u8], asked: &Asked) {
+        let mut so_far = Asked::default();
+        for i in 1..count {
+            if let Ok(true) = so_far.take(self.rt, i, count) {
+                self.file(word(self.rt, i, &mut [0; 4096]), room, asked);
+            }
+        }
     }
-    if asked.files == 0 {
-        input(rt, asked, message, rows, house, out);
-        return;
+
+    // Each file, or standard input where none is named; or help, or what is wrong with an argument. A message is read into its room.
+    pub fn run(&mut self, room: &mut [u8]) {
+        let count = count(self.rt);
+        match Asked::read(self.rt, count) {
+            Err(wrong) => help::bad(self.rt, &mut self.out, wrong),
+            Ok(asked) if asked.help => {
+                help::all(&mut self.out);
+                self.out.flush();
+            }
+            Ok(asked) if asked.files == 0 => self.input(room, &asked),
+            Ok(asked) => self.each(count, room, &asked),
+        }
     }
-    each(rt, count, asked, message, rows, house, out);
 }

@@ -5,13 +5,21 @@ mod buffers;
 mod files;
 mod messages;
 
-use wording::block;
+use buffers::{BLOCK, HOUSE, MESSAGE, WORDS, zeros};
+use files::Program;
+use wording::block::Block;
 
 fn main(rt: HostRuntime) {
-    let mut message = buffers::message();
-    let mut rows = buffers::rows();
-    let mut house = buffers::house();
-    let mut room = buffers::block();
-    let mut out = block::empty(&mut room, &rt);
-    files::all(&rt, &mut message, &mut rows, &mut house, &mut out);
+    let mut message = zeros::<u8, MESSAGE>();
+    let mut rows = zeros::<u32, WORDS>();
+    let mut house = zeros::<u8, HOUSE>();
+    let mut block = zeros::<u8, BLOCK>();
+    let out = Block::new(&mut block, &rt);
+    let mut program = Program {
+        rt: &rt,
+        rows: &mut rows,
+        house: &mut house,
+        out,
+    };
+    program.run(&mut message);
 }

@@ -2,6 +2,7 @@
 #![tactic(auto)]
 
 pub mod lengths;
+pub mod message;
 pub mod narrowed;
 pub mod room;
 pub mod walk;

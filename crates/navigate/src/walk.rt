@@ -1,252 +1,298 @@
-// The way through the bytes of an accepted message: which token each byte belongs to.
+// The way through the bytes of an accepted message: runs of bytes, and the part of the message that each belongs to.
+ghost use Rattle.std.specs.Prelude.{◌≡◌, ◌<◌, ◌≤◌, ◌-◌, length};
+ghost use Rattle.std.specs.Iterator.{at_most};
+
+use crate::message::{Message, kind_of, payload_end};
+use format::answers::Kind;
 use format::marks::Mark;
-use grid::held::{has_slots, is_cut};
-use numbers::{byte, least, less, sum};
-use rows::{Row, count, load};
+use grid::held::has_slots;
+use rows::Row;
 
-// Where the way has come to: a byte, the first row that is not open yet, and the rows that are open.
+// The part of a message that bytes belong to.
 #[derive(Clone, Copy)]
-pub struct Walk {
-    pub byte: usize,
-    pub row: usize,
-    // The rows that are open, the innermost last, and how many there are: a message nests less deep than there is room.
-    pub open: [usize; 64],
-    // The byte after each that is a container.
-    pub ends: [usize; 64],
-    pub depth: usize,
-    // The byte after all that belongs to the rows opened so far, closing marks aside.
+pub enum Part {
+    // The start of a row: all of a token that holds no others, or what stands before the first that it holds.
+    Start(usize),
+    // The rest of a packed array's or a table's header.
+    Header(usize),
+    // Its slots.
+    Slots(usize),
+    // The mark that closes a row.
+    Close(usize),
+    // No-ops.
+    NoOps,
+    // Rows that are not held.
+    Unheld,
+}
+
+// Bytes from one on, before another, that belong to one part.
+#[derive(Clone, Copy)]
+pub struct Run {
+    pub part: Part,
+    pub from: usize,
     pub end: usize,
-    // How many bytes of output are left for slots.
-    pub room: usize,
-    // The place after what is shown in the block of output.
-    pub at: usize,
 }
 
-// No row.
-pub const NONE: usize = 0xFFFF_FFFF;
-
-// No byte: past all.
-const NEVER: usize = 0xFFFF_FFFF_FFFF_FFFF;
-
-// The way's start.
-pub fn none(room: usize, at: usize) -> Walk {
-    Walk {
-        byte: 0,
-        row: 0,
-        open: [0; 64],
-        ends: [0; 64],
-        depth: 0,
-        end: 0,
-        room: room,
-        at: at,
-    }
+// A row that is open, and the byte after it, if it is a container.
+#[derive(Clone, Copy)]
+struct Open {
+    row: usize,
+    end: Option<usize>,
 }
 
-// The row that is open at a depth.
-fn open_at(w: Walk, depth: usize) -> usize {
-    if depth < 64 {
-        return w.open[depth];
-    }
-    NONE
+// Where the way has come to.
+#[derive(Drop)]
+pub struct Walk<'a> {
+    message: Message<'a>,
+    // The byte, and the first row that is not open yet.
+    byte: usize,
+    row: usize,
+    // The rows that are open, the innermost last, and how many there are: a message nests less deep than there is room. The room is
+    // fixed, since nothing is allocated.
+    open: [Open; 64],
+    depth: usize,
+    // The byte after all that belongs to the rows opened so far, closing marks aside.
+    reached: usize,
+    ghost inside: { depth ≤ 64 },
 }
 
-// The innermost open row; none outside the value.
-pub fn top(w: Walk) -> usize {
-    if w.depth == 0 {
-        return NONE;
-    }
-    open_at(w, less(w.depth, 1))
+// Whether a row holds others.
+fn holds_others(r: Row) -> bool {
+    matches!(
+        kind_of(r),
+        Some(
+            Kind::Array
+                | Kind::Object
+                | Kind::Packed
+                | Kind::Table
+                | Kind::SchemaRecord
+                | Kind::FixedArray
+        )
+    )
 }
 
-// The byte after the container that is open at a depth.
-fn end_at(w: Walk, depth: usize) -> usize {
-    if depth < 64 {
-        return w.ends[depth];
-    }
-    NEVER
-}
-
-// The same with one row more open, and the byte after it.
-fn pushed(mut w: Walk, row: usize, end: usize) -> Walk {
-    let depth = w.depth;
-    w.depth = sum(depth, 1);
-    if depth < 64 {
-        w.open[depth] = row;
-        w.ends[depth] = end;
-    }
-    w
-}
-
-// The byte after a row's payload.
-pub fn payload_end(r: Row) -> usize {
-    sum(r.payload as usize, r.extent as usize)
+// Whether a row is a container's, whose end its payload and a closing mark tell.
+fn is_container(r: Row) -> bool {
+    matches!(
+        kind_of(r),
+        Some(Kind::Array | Kind::Object | Kind::Packed | Kind::Table)
+    )
 }
 
 // The byte after a leaf's kind in a schema: its mark, and a text's length.
-fn leaf_end(message: &[u8], first: usize) -> usize {
-    if byte(message, first) == Mark::TEXT {
-        let length = byte(message, sum(first, 1));
-        return sum(sum(first, 2), Mark(length).width());
+fn leaf_end(message: Message, r: Row) -> usize {
+    let first = r.first as usize;
+    if message.byte(first) != Some(Mark::TEXT) {
+        return first + 1;
     }
-    sum(first, 1)
+    let length = message.byte(first + 1).unwrap_or(0);
+    (first + 2).saturating_add(Mark(length).width())
 }
 
 // The byte after the header of a packed array or a table; after its first two marks, where the rows of others in it are not held.
-fn header_end(held: usize, r: Row) -> usize {
-    if is_cut(held, r) {
-        return sum(r.first as usize, 2);
+fn header_end(message: Message, r: Row) -> usize {
+    if message.is_cut(r) {
+        return r.first as usize + 2;
     }
     r.payload as usize
 }
 
-// The byte after what a row has at its start, where so many rows are held: all of a token that holds no others, or what stands
-// before the first that it holds.
-fn head_end(message: &[u8], held: usize, r: Row) -> usize {
-    let kind = r.kind;
-    match kind {
-        5 => r.payload as usize,
-        6 => r.payload as usize,
-        7 => header_end(held, r),
-        8 => header_end(held, r),
-        9 => leaf_end(message, r.first as usize),
-        10 => sum(r.first as usize, 1),
-        11 => sum(r.first as usize, 1),
+// The byte after what a row has at its start.
+fn start_end(message: Message, r: Row) -> usize {
+    match kind_of(r) {
+        Some(Kind::Array | Kind::Object) => r.payload as usize,
+        Some(Kind::Packed | Kind::Table) => header_end(message, r),
+        Some(Kind::Leaf) => leaf_end(message, r),
+        Some(Kind::SchemaRecord | Kind::FixedArray) => r.first as usize + 1,
         _ => payload_end(r),
     }
 }
 
 // The byte after what a row has at its start, or after its slots, if they are known.
-fn reach(message: &[u8], held: usize, r: Row) -> usize {
-    if has_slots(r) && !is_cut(held, r) {
+fn reach(message: Message, r: Row) -> usize {
+    if has_slots(r) && !message.is_cut(r) {
         return payload_end(r);
     }
-    head_end(message, held, r)
+    start_end(message, r)
 }
 
-// The larger of two numbers.
-fn greatest(a: usize, b: usize) -> usize {
-    if a < b {
-        return b;
-    }
-    a
+// Whether a container has a closing mark: one that is counted, as the byte after its mark says, has none.
+fn has_closing_mark(message: Message, r: Row) -> bool {
+    let second = message.byte(r.first as usize + 1);
+    !has_slots(r) && !matches!(second, Some(Mark::COUNT | Mark::TYPE))
 }
 
-// Whether an array or object is counted, by the byte after its mark: then it has no closing mark.
-fn is_counted(b: u8) -> bool {
-    b == Mark::COUNT || b == Mark::TYPE
+// The byte after a container.
+fn container_end(message: Message, r: Row) -> Option<usize> {
+    let marks = usize::from(has_closing_mark(message, r));
+    is_container(r).then_some(payload_end(r).saturating_add(marks))
 }
 
-// The byte after an array, an object, a packed array or a table; past all for any other row, which holds none.
-fn container_end(message: &[u8], r: Row) -> usize {
-    if r.kind < 5 || 8 < r.kind {
-        return NEVER;
-    }
-    let end = payload_end(r);
-    if has_slots(r) || is_counted(byte(message, sum(r.first as usize, 1))) {
-        return end;
-    }
-    sum(end, 1)
-}
-
-// Opens the row that starts at the byte, if one does.
-pub fn opened(message: &[u8], rows: &[u32], used: usize, mut w: Walk) -> Walk {
-    let row = w.row;
-    let r = load(rows, row);
-    if row < used && r.first as usize == w.byte {
-        w.row = sum(row, 1);
-        w.end = greatest(w.end, reach(message, count(rows), r));
-        return pushed(w, row, container_end(message, r));
-    }
-    w
-}
-
-// Whether the way has come to what belongs to no row that is held.
-pub fn is_past(rows: &[u32], used: usize, w: Walk) -> bool {
-    is_cut(count(rows), load(rows, 0)) && used <= w.row && w.end <= w.byte
-}
-
-// The byte after the no-ops that stand from a place on.
-fn noops_end(message: &[u8], from: usize) -> usize {
-    let mut at = from;
-    while at < message.len() && message[at] == Mark::NOOP {
-        at += 1;
-    }
-    at
-}
-
-// The byte after a closing mark, or after the no-ops that stand there.
-fn mark_end(message: &[u8], at: usize) -> usize {
-    if byte(message, at) == Mark::NOOP {
-        return noops_end(message, at);
-    }
-    sum(at, 1)
-}
-
-// Whether a run from a byte on is at the start of a row; not where there is no row.
-pub fn starts(r: Row, from: usize) -> bool {
-    r.kind != 0 && r.first as usize == from
-}
-
-// The byte after what a row has where the way has come to.
-fn own_end(message: &[u8], held: usize, r: Row, at: usize) -> usize {
-    if starts(r, at) {
-        return head_end(message, held, r);
-    }
-    if has_slots(r) {
-        return r.payload as usize;
-    }
-    mark_end(message, at)
-}
-
-// The first byte of the next row to be opened; past all after the last.
-fn next_first(rows: &[u32], used: usize, row: usize) -> usize {
-    if row < used {
-        let r = load(rows, row);
-        return r.first as usize;
-    }
-    NEVER
-}
-
-// The byte after those that belong to the innermost open row, from where the way has come to.
-pub fn run_end(message: &[u8], rows: &[u32], used: usize, r: Row, w: Walk) -> usize {
-    let own = own_end(message, count(rows), r, w.byte);
-    let next = next_first(rows, used, w.row);
-    let end = least(least(own, next), message.len());
-    if end <= w.byte {
-        return sum(w.byte, 1);
-    }
-    end
-}
-
-// Closes the containers that end at the byte.
-pub fn closed(w: Walk) -> Walk {
-    let mut after = w;
-    let mut depth = w.depth;
-    while 0 < depth && end_at(w, less(depth, 1)) <= w.byte {
-        depth -= 1;
-    }
-    after.depth = depth;
-    after
-}
-
-// Whether a row is closed by a run that starts at a byte: a token that holds no others is, and a schema's brackets are by the second.
-pub fn closes(r: Row, from: usize) -> bool {
-    let kind = r.kind;
-    if kind == 0 {
-        return false;
-    }
-    if kind == 10 || kind == 11 {
-        return from != r.first as usize;
-    }
-    kind < 5 || 8 < kind
-}
-
-// Whether the way has come to the slots of a row.
-pub fn at_slots(r: Row, at: usize) -> bool {
+// Whether a byte is among the slots of a row.
+fn is_among_slots(r: Row, at: usize) -> bool {
     has_slots(r) && r.payload as usize <= at && at < payload_end(r)
 }
 
-// Whether a run at a byte is of no-ops: not in a packed array or a table.
-pub fn is_noop(message: &[u8], r: Row, at: usize) -> bool {
-    !has_slots(r) && byte(message, at) == Mark::NOOP
+impl<'a> Walk<'a> {
+    // The way's start.
+    pub fn new(message: Message<'a>) -> Walk<'a>
+        ensures message { result.message ≡ message.entry }
+        ensures start { result.byte ≡ 0 }
+    {
+        Walk {
+            message,
+            byte: 0,
+            row: 0,
+            open: [Open { row: 0, end: None }; 64],
+            depth: 0,
+            reached: 0,
+        }
+    }
+
+    // The innermost open row; none outside the value.
+    fn innermost(&self) -> Option<Open> {
+        self.open[..self.depth].last().copied()
+    }
+
+    // Opens the row that starts at the byte, if one does.
+    fn open_row(&mut self)
+        ensures byte { self.new.byte ≡ self.old.byte }
+        ensures message { self.new.message ≡ self.old.message }
+    {
+        let row = self.row;
+        let r = self.message.row(row);
+        if self.message.held() <= row || r.first as usize != self.byte {
+            return;
+        }
+        self.row = row + 1;
+        self.reached = self.reached.max(reach(self.message, r));
+        if self.depth < 64 {
+            self.open[self.depth] = Open {
+                row,
+                end: container_end(self.message, r),
+            };
+            self.depth += 1;
+        }
+    }
+
+    // How many of the open rows, from the innermost on, are containers that end at the byte.
+    fn ended(&self) -> usize {
+        let open = self.open[..self.depth].iter().rev();
+        open.take_while(|open| open.end.is_some_and(|end| end <= self.byte))
+            .count()
+    }
+
+    // Closes the innermost open row, if it holds no others or its bracket has passed, and the containers that end at the byte.
+    fn close_rows(&mut self, part: Part)
+        ensures byte { self.new.byte ≡ self.old.byte }
+        ensures message { self.new.message ≡ self.old.message }
+    {
+        let closes = match part {
+            Part::Start(row) => !holds_others(self.message.row(row)),
+            Part::Close(row) => !is_container(self.message.row(row)),
+            _ => false,
+        };
+        if closes {
+            self.depth = self.depth.saturating_sub(1);
+        }
+        self.depth = self.depth.saturating_sub(self.ended());
+    }
+
+    // Whether the way has come to what belongs to no row that is held.
+    fn is_past(&self) -> bool {
+        self.message.is_cut(self.message.row(0))
+            && self.message.held() <= self.row
+            && self.reached <= self.byte
+    }
+
+    // The part that the byte belongs to.
+    fn part(&self) -> Part {
+        let Some(Open { row, .. }) = self.innermost() else {
+            return Part::NoOps;
+        };
+        let r = self.message.row(row);
+        if r.first as usize == self.byte {
+            return Part::Start(row);
+        }
+        if is_among_slots(r, self.byte) {
+            return Part::Slots(row);
+        }
+        if has_slots(r) {
+            return Part::Header(row);
+        }
+        if self.message.byte(self.byte) == Some(Mark::NOOP) {
+            return Part::NoOps;
+        }
+        Part::Close(row)
+    }
+
+    // The byte after the no-ops that stand at the byte.
+    fn noops_end(&self) -> usize {
+        let rest = self.message.bytes.iter().skip(self.byte);
+        let noops = rest.take_while(|b| **b == Mark::NOOP);
+        self.byte.saturating_add(noops.count())
+    }
+
+    // The first byte of the next row to be opened; none after the last.
+    fn next_first(&self) -> Option<usize> {
+        if self.row < self.message.held() {
+            return Some(self.message.row(self.row).first as usize);
+        }
+        None
+    }
+
+    // The byte after those that belong to a part.
+    fn part_end(&self, part: Part) -> usize {
+        match part {
+            Part::Start(row) => start_end(self.message, self.message.row(row)),
+            Part::Header(row) => self.message.row(row).payload as usize,
+            Part::Slots(row) => payload_end(self.message.row(row)),
+            Part::Close(_) => self.byte.saturating_add(1),
+            Part::NoOps => self.noops_end(),
+            Part::Unheld => self.message.bytes.len(),
+        }
+    }
+
+    // The run at the byte: it ends before the next row, and has a byte.
+    fn run(&self, part: Part) -> Run
+        requires { self.now.byte < length self.now.message.bytes.now }
+        ensures from { result.from ≡ self.now.byte }
+        ensures some { self.now.byte < result.end }
+        ensures inside { result.end ≤ length self.now.message.bytes.now }
+    {
+        let next = self.next_first().unwrap_or(usize::MAX);
+        let last = next.min(self.message.bytes.len());
+        Run {
+            part,
+            from: self.byte,
+            end: self.part_end(part).min(last).max(self.byte + 1),
+        }
+    }
+}
+
+impl<'a> Iterator for Walk<'a> {
+    type Item = Run;
+
+    ghost use Rattle.navigate.specs.Runs.{Follows};
+
+    // Each run begins where the last one ended, and has a byte, up to the message's last byte.
+    ghost next_gives = { λ s r t. Follows s.message.bytes.now s.byte r t.byte };
+
+    ghost remaining = { λ s. at_most (length s.message.bytes.now - s.byte) };
+
+    fn next(&mut self) -> Option<Run> {
+        if self.message.bytes.len() <= self.byte {
+            return None;
+        }
+        if self.is_past() {
+            let rest = self.run(Part::Unheld);
+            self.byte = rest.end;
+            return Some(rest);
+        }
+        self.open_row();
+        let run = self.run(self.part());
+        self.byte = run.end;
+        self.close_rows(run.part);
+        Some(run)
+    }
 }

@@ -1,92 +1,81 @@
 // Why an address is refused, in words.
-use crate::one_slot::{Indexes, index};
-use describe::words;
-use describe::words::say;
+use crate::address::indexes;
 use grid::{held, shape};
-use rows::load;
-use show::scalars;
+use navigate::message::Message;
+use options::arguments::Address;
+use show::scalars::refused;
+use std::fmt::Display;
 use wording::block::Block;
-use wording::phrases::{Phrase, plain, with};
+use wording::names::{kind, plural};
 
 // The refusal of indexes that are not there.
 pub const NOT_THERE: u32 = 10;
 
-// The place of the first index that is too large; their number where none is.
-fn first_over(rows: &[u32], row: usize, indexes: Indexes) -> usize {
-    let count = indexes.count;
-    let mut j: usize = 0;
-    while j < count {
-        if shape::extent(rows, row, j) <= index(indexes, j) {
-            return j;
-        }
-        j += 1;
-    }
-    count
+// The first index that is too large, and what it must be below.
+fn first_over(rows: &[u32], row: usize, indexes: &[usize]) -> Option<(usize, usize)> {
+    indexes
+        .iter()
+        .enumerate()
+        .map(|(j, index)| (*index, shape::extent(rows, row, j)))
+        .find(|(index, below)| below <= index)
 }
 
 // Whether there are as many indexes as dimensions, and each is small enough.
-pub fn are_inside(rows: &[u32], row: usize, indexes: Indexes) -> bool {
-    let count = indexes.count;
-    count == shape::rank(rows, row) && first_over(rows, row, indexes) == count
-}
-
-// An index that must be below a number.
-fn too_large(index: usize, below: usize) -> Phrase {
-    if below == 0 {
-        return with(words::NO_INDEX, index, 0, 0);
-    }
-    with(words::OVER, index, below - 1, 0)
+pub fn are_inside(rows: &[u32], address: &Address) -> bool {
+    let indexes = indexes(&address.indexes);
+    let row = address.row;
+    indexes.len() == shape::rank(rows, row) && first_over(rows, row, indexes).is_none()
 }
 
 // What is wrong with the indexes.
-fn of_indexes(rows: &[u32], row: usize, indexes: Indexes) -> Phrase {
+fn of_indexes(rows: &[u32], row: usize, indexes: &[usize], out: &mut Block) {
     let rank = shape::rank(rows, row);
-    if indexes.count != rank {
-        return with(words::RANK, rank, row, indexes.count);
+    let given = indexes.len();
+    if given != rank {
+        write!(out, ": row {row} has {rank} dimension{}", plural(rank));
+        writeln!(out, "; indexes given: {given}");
+        return;
     }
-    let j = first_over(rows, row, indexes);
-    too_large(index(indexes, j), shape::extent(rows, row, j))
+    match first_over(rows, row, indexes) {
+        Some((index, 0)) => writeln!(out, ": index {index}, and there are none"),
+        Some((index, below)) => writeln!(out, ": index {index} is not among 0 to {}", below - 1),
+        None => out.line(),
+    }
 }
 
-// A row, which is not what is asked for; one that the message doesn't have.
-fn not_a(rows: &[u32], row: usize, phrase: usize, of: usize) -> Phrase {
-    let needed = held::needed(rows);
+// A row, which is not what is asked for; or how many rows there are, where the message doesn't have it.
+fn not_a(message: Message, row: usize, what: impl Display + Drop, out: &mut Block) {
+    let needed = message.needed();
     if needed <= row {
-        return with(words::NO_ROW, needed, row, 0);
+        writeln!(
+            out,
+            ": row {row}, but there are {needed} row{}",
+            plural(needed)
+        );
+        return;
     }
-    let r = load(rows, row);
-    with(phrase, row, r.kind as usize, of)
+    let kind = kind(message.row(row).kind as usize);
+    writeln!(out, ": row {row} ({kind}) is no {what}");
 }
 
 // What is wrong with the rows.
-fn of_rows(rows: &[u32], row: usize, leaf: usize) -> Phrase {
-    if !held::has_slots(load(rows, row)) {
-        return not_a(rows, row, words::SLOTLESS, 0);
+fn of_rows(message: Message, row: usize, leaf: usize, out: &mut Block) {
+    if !held::has_slots(message.row(row)) {
+        not_a(message, row, "packed array and no table", out);
+    } else if shape::names(message.rows, row, leaf) {
+        out.line();
+    } else {
+        not_a(message, leaf, format_args!("leaf of row {row}"), out);
     }
-    if shape::names(rows, row, leaf) {
-        return plain(words::NOTHING);
-    }
-    not_a(rows, leaf, words::OTHER_ROW, row)
-}
-
-// What is wrong with an address.
-fn why(rows: &[u32], row: usize, leaf: usize, indexes: Indexes, refusal: u32) -> Phrase {
-    if refusal == NOT_THERE {
-        return of_indexes(rows, row, indexes);
-    }
-    of_rows(rows, row, leaf)
 }
 
 // A refusal, and what is wrong with the address.
-pub fn refused(
-    rows: &[u32],
-    row: usize,
-    leaf: usize,
-    indexes: Indexes,
-    refusal: u32,
-    out: &mut Block,
-    at: usize,
-) -> usize {
-    let told = scalars::refused(out, at, refusal);
-    say(out, told, why(rows, row, leaf, indexes, refusal))
+pub fn refused_at(message: Message, address: &Address, refusal: u32, out: &mut Block) {
+    refused(out, refusal);
+    let row = address.row;
+    if refusal == NOT_THERE {
+        of_indexes(message.rows, row, indexes(&address.indexes), out);
+    } else {
+        of_rows(message, row, address.leaf.unwrap_or(0), out);
+    }
 }

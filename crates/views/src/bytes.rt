@@ -1,114 +1,75 @@
 // All bytes of an accepted message, each with the token or the slot that it belongs to.
-use describe::words::say;
-use describe::{row, words};
-use grid::held::has_slots;
-use navigate::walk::Walk;
-use navigate::{room, walk};
-use numbers::less;
-use rows::{Row, load};
+use describe::row;
+use navigate::message::Message;
+use navigate::room;
+use navigate::walk::{Part, Run, Walk};
 use show::dump;
 use slot_views::slot_lists;
-use wording::block::{Block, line};
-use wording::phrases::{Phrase, plain, with};
+use wording::block::Block;
+use wording::names::kind;
 
-// The phrase of a run that is not at a row's start: the rest of a header, or a closing mark.
-fn later(row: usize, r: Row) -> Phrase {
-    if has_slots(r) {
-        return with(words::REST, row, r.kind as usize, 0);
-    }
-    with(words::END, row, r.kind as usize, 0)
-}
-
-// The phrase of so many no-ops.
-fn noops(count: usize) -> Phrase {
+// So many no-ops.
+fn noops(count: usize, out: &mut Block) {
     if count == 1 {
-        return plain(words::NOOP);
+        out.text(b"no-op");
+    } else {
+        write!(out, "{count} no-ops");
     }
-    with(words::NOOPS, count, 0, 0)
 }
 
-// What a run from a byte on, before another, belongs to.
-fn owner(
-    message: &[u8],
-    rows: &[u32],
-    row: usize,
-    from: usize,
-    end: usize,
-    out: &mut Block,
-    at: usize,
-) -> usize {
-    let r = load(rows, row);
-    if walk::starts(r, from) {
-        return row::numbered(message, rows, row, out, at);
-    }
-    if walk::is_noop(message, r, from) {
-        return say(out, at, noops(less(end, from)));
-    }
-    say(out, at, later(row, r))
+// The bytes of a run, with what they belong to beside them.
+fn beside<F: FnOnce(&mut Block)>(message: Message, run: Run, out: &mut Block, owner: F)
+    requires { F.IsAlwaysCallable owner }
+{
+    dump::head(out, message.bytes, run.from, run.end);
+    owner(out);
+    out.line();
+    dump::rest(out, message.bytes, run.from, run.end);
 }
 
-// A run of bytes that belong to the innermost open row.
-fn run(
-    message: &[u8],
-    rows: &[u32],
-    used: usize,
-    row: usize,
-    out: &mut Block,
-    mut w: Walk,
-) -> Walk {
-    let r = load(rows, row);
-    let from = w.byte;
-    let end = walk::run_end(message, rows, used, r, w);
-    let shown = dump::head(out, w.at, message, from, end);
-    let told = owner(message, rows, row, from, end, out, shown);
-    let ended = line(out, told);
-    w.at = dump::rest(out, ended, message, from, end);
-    w.byte = end;
-    if walk::closes(r, from) {
-        w.depth = less(w.depth, 1);
+// The bytes that belong to no row that is held, as they are.
+fn unheld(message: Message, run: Run, out: &mut Block) {
+    let from = run.from;
+    writeln!(
+        out,
+        "the rows held end at byte {from}; the bytes from there on:"
+    );
+    dump::lines(out, message.bytes, from, run.end);
+}
+
+// A run, and what it belongs to.
+fn shown(message: Message, run: Run, room: &mut usize, out: &mut Block) {
+    match run.part {
+        Part::Start(row) => beside(message, run, out, |out| row::numbered(message, row, out)),
+        Part::Header(row) => {
+            let kind = kind(message.row(row).kind as usize);
+            beside(message, run, out, |out| {
+                write!(out, "row {row}: {kind}, rest of its header")
+            });
+        }
+        Part::Close(row) => {
+            let kind = kind(message.row(row).kind as usize);
+            beside(
+                message,
+                run,
+                out,
+                |out| write!(out, "row {row}: {kind}, end"),
+            );
+        }
+        Part::NoOps => {
+            let count = run.end.saturating_sub(run.from);
+            beside(message, run, out, |out| noops(count, out));
+        }
+        Part::Slots(row) => slot_lists::by_bytes(message, row, run.from, room, out),
+        Part::Unheld => unheld(message, run, out),
     }
-    w
-}
-
-// The slots of the innermost open row.
-fn slots_of(message: &[u8], rows: &[u32], row: usize, out: &mut Block, mut w: Walk) -> Walk {
-    let begun = slot_lists::none(true, w.byte, w.room, w.at);
-    let listed = slot_lists::all(message, rows, row, out, begun);
-    w.at = listed.at;
-    w.room = listed.room;
-    w.byte = walk::payload_end(load(rows, row));
-    w
-}
-
-// One run, or the slots of a packed array or a table.
-fn step(message: &[u8], rows: &[u32], used: usize, out: &mut Block, w: Walk) -> Walk {
-    let here = walk::opened(message, rows, used, w);
-    let row = walk::top(here);
-    if walk::at_slots(load(rows, row), here.byte) {
-        return walk::closed(slots_of(message, rows, row, out, here));
-    }
-    walk::closed(run(message, rows, used, row, out, here))
-}
-
-// The bytes that belong to no row that is held.
-fn unheld(message: &[u8], from: usize, out: &mut Block, at: usize) -> usize {
-    let told = say(out, at, with(words::UNHELD, from, 0, 0));
-    dump::lines(out, told, message, from, message.len())
 }
 
 // All bytes; those of rows that are not held as they are.
-pub fn all(message: &[u8], rows: &[u32], used: usize, out: &mut Block, at: usize) -> usize {
-    let begun = say(out, at, plain(words::BYTES_HEAD));
-    let mut w = walk::none(room::all(message), begun);
-    while w.byte < message.len() {
-        if walk::is_past(rows, used, w) {
-            return unheld(message, w.byte, out, w.at);
-        }
-        let next = step(message, rows, used, out, w);
-        if next.byte <= w.byte {
-            return next.at;
-        }
-        w = next;
+pub fn all(message: Message, out: &mut Block) {
+    out.text(b"    byte  hex                                              belongs to\n");
+    let mut room = room::all(message);
+    for run in Walk::new(message) {
+        shown(message, run, &mut room, out);
     }
-    w.at
 }

@@ -1,6 +1,9 @@
--- `files::read`: a loop over reads. Assumes nothing.
-use Rattle.std.proofs.Common.{length, ◌-◌}
+-- `files::read`: a loop over reads, each of which leaves less room. Assumes nothing.
+use Rattle.std.proofs.Common.{length, ◌-◌, ◌≤◌}
 use Rattle.inspect.proofs.files.read.Given as goal
+
+abbrev pub invariant-loop-count : goal.invariant-loop-count
+invariant-loop-count g l = l.count ≤ length l.room
 
 abbrev pub decreases-loop-count : goal.decreases-loop-count
 decreases-loop-count g l = length l.initial.room - l.count
