@@ -10,12 +10,12 @@ use borrow.Author.Tests.{lt-ltb, le-ltb, eq-eqb, ne_eqb}
 use Rattle.format.specs.Conditions.{when◌then◌else◌}
 use Rattle.format.specs.Outcome.{fault, ◌>>=◌, ◌>>◌, guard}
 use Rattle.format.specs.Limits.{schema_levels}
-use Rattle.format.specs.Refusals.{ends_too_early, not_allowed, too_deep, no_row_left, not_built}
-use Rattle.format.specs.Marks.{Opening, bracket, brace, is_plain_leaf, width, leaf_width, 'S', 'H', 'T', '$', '[', left_brace}
+use Rattle.format.specs.Refusals.{ends_too_early, too_deep, no_row_left, not_built}
+use Rattle.format.specs.Marks.{Opening, bracket, brace, width, leaf_width, 'T', '$'}
 use Rattle.format.specs.Bytes.{byte, one_of}
 use Rattle.format.specs.Sequences.{Reader, row_left}
 use Rattle.format.specs.Scalars.{key}
-use Rattle.format.specs.Schemas.{plain_leaf, text_leaf, schema, fixed, kind_by, group_by, nested, table_schema}
+use Rattle.format.specs.Schemas.{schema, fixed, kind_by, group_by, nested, table_schema}
 use Rattle.format.proofs.MarkFacts.{width_few}
 use Rattle.laws.proofs.Bounds.{byte_starts}
 use Rattle.tokens.proofs.Sofar.{seq_fault}
@@ -48,35 +48,6 @@ module _ (m : List ℕ) (lent at row : ℕ) where
   pub member_early : (levels : ℕ) (o : Opening) → length m ≤ at → member_at m lent levels o at row ≡ fault ends_too_early (length m)
   member_early levels bracket h = kind_early _ h
   member_early levels brace h = field_early levels h
-
-  module _ (inner : Opening → Reader) (mark : ℕ) (there : at < length m) (is : get_or m at 0 ≡ mark) where
-    pub kind_plain : is_plain_leaf mark ≡ true → kind_by m lent inner at row ≡ plain_leaf m lent mark at row
-    unfolding kind_by byte guard ◌>>◌ ◌>>=◌ when◌then◌else◌
-    kind_plain e = rw (lt-ltb _ _ there, is, e)
-
-    module _ (unplain : is_plain_leaf mark ≡ false) where
-      pub kind_text : mark ≡ 'S' → kind_by m lent inner at row ≡ text_leaf m lent at row
-      unfolding kind_by byte guard ◌>>◌ ◌>>=◌ when◌then◌else◌
-      kind_text e = rw (lt-ltb _ _ there, is, unplain, eq-eqb _ _ e)
-
-      module _ (no_text : mark ≡ 'S' → ⊥) where
-        pub kind_high : mark ≡ 'H' → kind_by m lent inner at row ≡ fault not_built at
-        unfolding kind_by byte guard ◌>>◌ ◌>>=◌ when◌then◌else◌
-        kind_high e = rw (lt-ltb _ _ there, is, unplain, ne_eqb _ _ no_text, eq-eqb _ _ e)
-
-        module _ (not-high : mark ≡ 'H' → ⊥) where
-          pub kind_array : mark ≡ '[' → kind_by m lent inner at row ≡ inner bracket at row
-          unfolding kind_by byte guard ◌>>◌ ◌>>=◌ when◌then◌else◌
-          kind_array e = rw (lt-ltb _ _ there, is, unplain, ne_eqb _ _ no_text, ne_eqb _ _ not-high, eq-eqb _ _ e)
-
-          module _ (no-array : mark ≡ '[' → ⊥) where
-            pub kind_record : mark ≡ left_brace → kind_by m lent inner at row ≡ inner brace at row
-            unfolding kind_by byte guard ◌>>◌ ◌>>=◌ when◌then◌else◌
-            kind_record e = rw (lt-ltb _ _ there, is, unplain, ne_eqb _ _ no_text, ne_eqb _ _ not-high, ne_eqb _ _ no-array, eq-eqb _ _ e)
-
-            pub kind_other : (mark ≡ left_brace → ⊥) → kind_by m lent inner at row ≡ fault not_allowed at
-            unfolding kind_by byte guard ◌>>◌ ◌>>=◌ when◌then◌else◌
-            kind_other e = rw (lt-ltb _ _ there, is, unplain, ne_eqb _ _ no_text, ne_eqb _ _ not-high, ne_eqb _ _ no-array, ne_eqb _ _ e)
 
   -- ---- a record or a fixed array: depth, then row
 

@@ -116,8 +116,7 @@ pub fn group_kinds(
             put_group(rows, row, brace, at, offset, read, count, ancestry);
             return Ok(Kinds {
                 at: read.at + 1,
-                row: read.row,
-                offset: read.offset,
+                ..read
             });
         }
     }

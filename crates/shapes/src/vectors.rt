@@ -39,9 +39,8 @@ fn repeated(
     for count in 0..n {
         let next = item(message, rows, lent, form, read.at, read.row, ancestry)?;
         read = Dims {
-            at: next.at,
-            row: next.row,
             many: times(read.many, next.many),
+            ..next
         };
     }
     Ok(read)
@@ -138,15 +137,13 @@ fn listed(
         if message[here] == Mark::ARRAY_END {
             return Ok(Dims {
                 at: here + 1,
-                row: read.row,
-                many: read.many,
+                ..read
             });
         }
         let next = marked(message, rows, lent, here, read.row, ancestry)?;
         read = Dims {
-            at: next.at,
-            row: next.row,
             many: times(read.many, next.many),
+            ..next
         };
     }
     Err(Refused(Refusal::WrongInteger, place))

@@ -1,4 +1,3 @@
 pub mod Header
 pub mod PackedCases
 pub mod TableCases
-pub mod TypeCases

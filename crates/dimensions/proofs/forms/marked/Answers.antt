@@ -1,21 +1,20 @@
 -- `marked`: the mark of an integer, and the dimension under it. Assumes nothing.
-use mathlib.Core.Bool.{true}
-use mathlib.Core.Path.{◌≡◌}
-use lib.ListN.{get_or}
-use Rattle.format.specs.Marks.{is_integer}
-use Rattle.dimensions.proofs.Cases.{marked_early, marked_other, marked_there}
+use borrow.Author.Tests.{lt-ltb, le-ltb}
+use Rattle.format.specs.Outcome.{◌>>=◌, ◌>>◌, guard}
+use Rattle.format.specs.Bytes.{byte, one_of}
+use Rattle.format.specs.Dimensions.{marked}
 use Rattle.dimensions.proofs.forms.marked.Goals as goal
 
 pub returns-then-end-at-clause-meets : goal.returns-then-end-at-clause-meets
-returns-then-end-at-clause-meets c =
-    marked_early _ _ _ _ c.if-end-at.true
+unfolding marked one_of byte guard ◌>>◌ ◌>>=◌
+returns-then-end-at-clause-meets c = rw (le-ltb _ _ c.if-end-at.true)
 
 pub returns-then-not-is_integer-clause-meets : goal.returns-then-not-is_integer-clause-meets
+unfolding marked one_of byte guard ◌>>◌ ◌>>=◌
 returns-then-not-is_integer-clause-meets c =
-    marked_other _ _ _ _ c.if-end-at.false (rw (← c.is_integer.ensures) c.if-not-is_integer.true)
+    rw (lt-ltb _ _ c.if-end-at.false, ← c.is_integer.ensures, c.if-not-is_integer.true)
 
 pub returns-clause-meets : goal.returns-clause-meets
+unfolding marked one_of byte guard ◌>>◌ ◌>>=◌
 returns-clause-meets c =
-    let a = c.args in
-    let d = c.dimension in
-    let e : is_integer (get_or a.message.now a.at 0) ≡ true = rw (← c.is_integer.ensures) c.if-not-is_integer.false in rw (marked_there _ _ _ _ c.if-end-at.false e) d.ensures.meets
+    rw (lt-ltb _ _ c.if-end-at.false, ← c.is_integer.ensures, c.if-not-is_integer.false) c.dimension.ensures.meets

@@ -5,10 +5,6 @@ use Rattle.tokens.proofs.Sofar.{seq_fault}
 use Rattle.kinds.proofs.Sofar.{start_key}
 use Rattle.kinds.proofs.starts.member_start.Goals as goal
 
-pub returns-then-not-brace-clause-meets : goal.returns-then-not-brace-clause-meets
-returns-then-not-brace-clause-meets c =
-    rw c.if-not-brace.true c.kind_start.ensures.meets
-
 pub returns-in_err-name-clause-meets : goal.returns-in_err-name-clause-meets
 returns-in_err-name-clause-meets c =
     let p = err_from_is_err_and c.from_residual.result c.from_residual.ensures.1 in

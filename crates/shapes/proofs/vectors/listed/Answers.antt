@@ -1,6 +1,6 @@
 -- `listed`: an integer record, and then what may follow it. Assumes nothing.
 use Prim.Native.Nat.{◌+◌, ◌-◌, ◌<◌}
-use mathlib.Core.Path.{◌≡◌, refl, ◌∙◌}
+use mathlib.Core.Path.{◌≡◌, ◌∙◌}
 use native.Mathlib.Omega.{arith}
 use Rattle.std.proofs.lemmas.Result.{err_from_is_err_and}
 use Rattle.format.specs.Limits.{dimension_limit}
@@ -14,11 +14,6 @@ pub returns-in_err-read-clause-meets : goal.returns-in_err-read-clause-meets
 returns-in_err-read-clause-meets c =
     let p = err_from_is_err_and c.from_residual.result c.from_residual.ensures.1 in
     rw (p.1, p.2) (seq_fault _ _ _ _ _ _ c.in_err-read.ensures.meets)
-
-pub loop-count-init : goal.loop-count-init
-loop-count-init c =
-    let b = c.in_ok-read.ensures.bounds in
-    (omega (arith, b), omega (arith, b), omega (arith, b), refl, λ whole first before g. g)
 
 pub returns-then-end-here-clause-meets : goal.returns-then-end-here-clause-meets
 returns-then-end-here-clause-meets c =

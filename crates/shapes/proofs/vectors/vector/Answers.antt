@@ -1,23 +1,31 @@
 -- `vector`: by the byte after the `[`. Assumes nothing.
-use Rattle.shapes.proofs.Cases.{vector_early, vector_empty, vector-counted, vector_typed, vector-listed}
+use borrow.Author.Tests.{lt-ltb, le-ltb, eq-eqb, ne_eqb}
+use Rattle.format.specs.Conditions.{when◌then◌else◌}
+use Rattle.format.specs.Outcome.{◌>>=◌, ◌>>◌, guard}
+use Rattle.format.specs.Bytes.{byte}
+use Rattle.format.specs.Dimensions.{vector}
 use Rattle.shapes.proofs.vectors.vector.Goals as goal
 
 pub returns-then-end-at-clause-meets : goal.returns-then-end-at-clause-meets
-returns-then-end-at-clause-meets c =
-    vector_early _ _ _ _ _ c.if-end-at.true
+unfolding vector byte guard ◌>>◌ ◌>>=◌ when◌then◌else◌
+returns-then-end-at-clause-meets c = rw (le-ltb _ _ c.if-end-at.true)
 
 pub returns-then-b-eq-ARRAY_END-clause-meets : goal.returns-then-b-eq-ARRAY_END-clause-meets
+unfolding vector byte guard ◌>>◌ ◌>>=◌ when◌then◌else◌
 returns-then-b-eq-ARRAY_END-clause-meets c =
-    vector_empty _ _ _ _ _ c.if-end-at.false c.if-b-eq-ARRAY_END.true
+    rw (lt-ltb _ _ c.if-end-at.false, eq-eqb _ _ c.if-b-eq-ARRAY_END.true)
 
 pub returns-then-b-eq-COUNT-clause-meets : goal.returns-then-b-eq-COUNT-clause-meets
+unfolding vector byte guard ◌>>◌ ◌>>=◌ when◌then◌else◌
 returns-then-b-eq-COUNT-clause-meets c =
-    let r = c.counted in rw (vector-counted _ _ _ _ _ c.if-end-at.false c.if-b-eq-ARRAY_END.false c.if-b-eq-COUNT.true) r.ensures.meets
+    rw (lt-ltb _ _ c.if-end-at.false, ne_eqb _ _ c.if-b-eq-ARRAY_END.false, eq-eqb _ _ c.if-b-eq-COUNT.true) c.counted.ensures.meets
 
 pub returns-then-b-eq-TYPE-clause-meets : goal.returns-then-b-eq-TYPE-clause-meets
+unfolding vector byte guard ◌>>◌ ◌>>=◌ when◌then◌else◌
 returns-then-b-eq-TYPE-clause-meets c =
-    let r = c.counted_bare in rw (vector_typed _ _ _ _ _ c.if-end-at.false c.if-b-eq-ARRAY_END.false c.if-b-eq-COUNT.false c.if-b-eq-TYPE.true) r.ensures.meets
+    rw (lt-ltb _ _ c.if-end-at.false, ne_eqb _ _ c.if-b-eq-ARRAY_END.false, ne_eqb _ _ c.if-b-eq-COUNT.false, eq-eqb _ _ c.if-b-eq-TYPE.true) c.counted_bare.ensures.meets
 
 pub returns-clause-meets : goal.returns-clause-meets
+unfolding vector byte guard ◌>>◌ ◌>>=◌ when◌then◌else◌
 returns-clause-meets c =
-    let r = c.listed in rw (vector-listed _ _ _ _ _ c.if-end-at.false c.if-b-eq-ARRAY_END.false c.if-b-eq-COUNT.false c.if-b-eq-TYPE.false) r.ensures.meets
+    rw (lt-ltb _ _ c.if-end-at.false, ne_eqb _ _ c.if-b-eq-ARRAY_END.false, ne_eqb _ _ c.if-b-eq-COUNT.false, ne_eqb _ _ c.if-b-eq-TYPE.false) c.listed.ensures.meets

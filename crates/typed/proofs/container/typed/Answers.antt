@@ -1,15 +1,9 @@
 -- `typed`: by the type. Assumes nothing.
 use native.Mathlib.Omega.{arith}
-use Rattle.std.proofs.lemmas.Result.{err_from_is_err_and}
 use Rattle.format.specs.Containers.{typed_as}
 use Rattle.format.proofs.MarkFacts.{type_wide}
 use Rattle.containers.specs.Lists.{pair_of}
 use Rattle.typed.proofs.container.typed.Goals as goal
-
-pub returns-in_err-kind-clause-meets : goal.returns-in_err-kind-clause-meets
-returns-in_err-kind-clause-meets c =
-    let p = err_from_is_err_and c.from_residual.result c.from_residual.ensures.1 in
-    rw (p.1, p.2) (c.in_err-kind.ensures.meets _ _ _)
 
 pub typed_object-requires : goal.typed_object-requires
 typed_object-requires c =
