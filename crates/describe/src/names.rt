@@ -1,6 +1,7 @@
 // The row that a path of names leads to.
 use crate::tree;
-use format::answers::{Found, Kind};
+use format::answers::Kind;
+use format::refusals::Refusal;
 use grid::held::{before, is_cut};
 use grid::shape;
 use lookup::lookup;
@@ -10,13 +11,10 @@ use show::quoted::plain;
 use show::scalars::refused;
 use wording::block::Block;
 
-// The answer for a row that has no names.
-const NO_NAMES: u32 = 12;
-
 // Why a name leads nowhere: the call's refusal; or it may stand among the rows that are not held.
 #[derive(Clone, Copy, PartialEq, Eq)]
 enum Nowhere {
-    Refused(u32),
+    Refused(Refusal),
     NotHeld,
 }
 
@@ -39,7 +37,12 @@ fn may_have_more(rows: &[u32], row: usize) -> bool {
 }
 
 // The row that a name leads to among the rows that are held: for the call, the link of a row leads no further than they do.
-fn among(message: &[u8], rows: &mut [u32], row: usize, name: &[u8]) -> Found {
+fn among(
+    message: &[u8],
+    rows: &mut [u32],
+    row: usize,
+    name: &[u8],
+) -> Result<usize, Refusal> {
     let whole = load(rows, row);
     let held = before(rows, whole.link as usize);
     let link = u32::try_from(held).unwrap_or(whole.link);
@@ -52,9 +55,9 @@ fn among(message: &[u8], rows: &mut [u32], row: usize, name: &[u8]) -> Found {
 // The row that one name leads to.
 fn step(message: &[u8], rows: &mut [u32], row: usize, name: &[u8]) -> Result<usize, Nowhere> {
     match among(message, rows, holder(rows, row), name) {
-        Found::Row(next) => Ok(next),
-        Found::Refused(_) if may_have_more(rows, row) => Err(Nowhere::NotHeld),
-        Found::Refused(number) => Err(Nowhere::Refused(number)),
+        Ok(next) => Ok(next),
+        Err(_) if may_have_more(rows, row) => Err(Nowhere::NotHeld),
+        Err(refusal) => Err(Nowhere::Refused(refusal)),
     }
 }
 
@@ -71,9 +74,9 @@ fn found(message: &[u8], rows: &mut [u32], path: &[u8]) -> Result<usize, Nowhere
 fn explained(nowhere: Nowhere, out: &mut Block) {
     match nowhere {
         Nowhere::NotHeld => out.text(b"not among the rows held"),
-        Nowhere::Refused(number) => refused(out, number),
+        Nowhere::Refused(refusal) => refused(out, refusal),
     }
-    if nowhere == Nowhere::Refused(NO_NAMES) {
+    if nowhere == Nowhere::Refused(Refusal::RowsDontFit) {
         out.text(b": objects, tables and records alone have names");
     }
     out.line();

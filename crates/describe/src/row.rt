@@ -1,7 +1,8 @@
 // A row in words.
 ghost use Rattle.std.specs.Prelude.{◌≡◌, ◌↔◌};
 
-use format::answers::{Kind, Located};
+use format::answers::{Kind, Span};
+use format::refusals::Refusal;
 use format::marks::Mark;
 use grid::shape;
 use navigate::message::{Message, kind_of};
@@ -57,10 +58,10 @@ impl Display for InRecord {
 }
 
 // The text that a call located, in quotes.
-pub fn located(message: &[u8], answer: Located, out: &mut Block) {
+pub fn located(message: &[u8], answer: Result<Span, Refusal>, out: &mut Block) {
     match answer {
-        Located::At(first, width) => quoted(out, message, first, width),
-        Located::Refused(number) => refused(out, number),
+        Ok(Span { first, width }) => quoted(out, message, first, width),
+        Err(refusal) => refused(out, refusal),
     }
 }
 

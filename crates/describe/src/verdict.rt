@@ -1,24 +1,18 @@
 // Accepted or refused, and why.
-use format::answers::{Answer, Edition};
+use format::answers::Edition;
 use format::limits::LIMIT;
 use format::marks::Mark;
+use format::refusals::{Refusal, Refused};
 use show::dump::Color;
 use show::{dump, scalars};
 use wording::block::Block;
 use wording::names::plural;
 
-// The refusal of a byte that is not allowed.
-const NOT_ALLOWED: u32 = 3;
-
-// The refusal for want of rows.
-const NO_ROW: u32 = 8;
-
-// Why a message is refused: by which edition, the refusal's number and place; and whether this is shown with colour.
+// Why a message is refused: by which edition, the refusal and its place; and whether this is shown with colour.
 #[derive(Clone, Copy)]
 pub struct Rejection {
     pub edition: Edition,
-    pub number: u32,
-    pub place: usize,
+    pub why: Refused,
     pub paint: bool,
 }
 
@@ -45,21 +39,26 @@ pub fn accepted(needed: usize, held: usize, paint: bool, out: &mut Block) {
 }
 
 // What a message that has no row left, where so many are held, is with rows enough: it has so many, or is refused.
-pub fn with_more(message: &[u8], held: usize, answer: Answer, edition: Edition, out: &mut Block) {
+pub fn with_more(
+    message: &[u8],
+    held: usize,
+    answer: Result<usize, Refused>,
+    edition: Edition,
+    out: &mut Block,
+) {
     match answer {
-        Answer::Done(needed) => writeln!(
+        Ok(needed) => writeln!(
             out,
             "this program holds {held} rows; house form takes all of the message's {needed}"
         ),
-        Answer::Refused(number, place) => {
+        Err(why) => {
             write!(
                 out,
                 "this program holds {held} rows; with more the message is "
             );
             let rejection = Rejection {
                 edition,
-                number,
-                place,
+                why,
                 paint: false,
             };
             rejection.reason(message, out);
@@ -79,10 +78,10 @@ impl Rejection {
 
     // The number, its meaning and the place.
     fn reason(&self, message: &[u8], out: &mut Block) {
-        let place = self.place;
-        scalars::refused(out, self.number);
+        let Refused(refusal, place) = self.why;
+        scalars::refused(out, refusal);
         write!(out, ", at byte {place}");
-        if self.number == NOT_ALLOWED && message.get(place) == Some(&Mark::EXTENSION) {
+        if refusal == Refusal::NotAllowed && message.get(place) == Some(&Mark::EXTENSION) {
             self.by_edition(out);
         }
     }
@@ -93,7 +92,7 @@ impl Rejection {
         self.reason(message, out);
         Color::Plain.begin(out, self.paint);
         out.line();
-        dump::around(out, message, self.place, 1, self.paint);
+        dump::around(out, message, self.why.1, 1, self.paint);
     }
 
     // The same, and all of its bytes, if asked for.
@@ -106,6 +105,6 @@ impl Rejection {
 
     // Whether a message is refused for want of rows.
     pub fn lacks_rows(&self) -> bool {
-        self.number == NO_ROW
+        self.why.0 == Refusal::NoRowLeft
     }
 }

@@ -2,7 +2,7 @@
 use crate::buffers::ROWS;
 use describe::verdict;
 use describe::verdict::Rejection;
-use format::answers::Answer;
+use format::refusals::Refused;
 use options::arguments::Asked;
 use reader::message::{read_front, rows_needed};
 use rewriter::message::rewrite;
@@ -12,11 +12,10 @@ use views::accepted;
 use wording::block::Block;
 
 // A refusal, as it is asked for.
-fn rejection(asked: &Asked, number: u32, place: usize) -> Rejection {
+fn rejection(asked: &Asked, why: Refused) -> Rejection {
     Rejection {
         edition: asked.read_by(),
-        number,
-        place,
+        why,
         paint: asked.color,
     }
 }
@@ -25,9 +24,9 @@ fn rejection(asked: &Asked, number: u32, place: usize) -> Rejection {
 pub fn shown(rt: &impl Env, message: &[u8], rows: &mut [u32], asked: &Asked, out: &mut Block) {
     verdict::size(message, out);
     match read_front(asked.read_by(), message, rows) {
-        Answer::Done(_) => accepted::shown(rt, message, rows, asked, out),
-        Answer::Refused(number, place) => {
-            rejection(asked, number, place).shown(message, asked.hex, out);
+        Ok(_) => accepted::shown(rt, message, rows, asked, out),
+        Err(why) => {
+            rejection(asked, why).shown(message, asked.hex, out);
         }
     }
 }
@@ -59,9 +58,9 @@ pub fn rewritten(
     out: &mut Block,
 ) {
     match rewrite(asked.read_by(), message, rows, house) {
-        Answer::Done(written) => out.direct(house.get(..written).unwrap_or(house)),
-        Answer::Refused(number, place) => {
-            not_rewritten(name, message, &rejection(asked, number, place), out);
+        Ok(written) => out.direct(house.get(..written).unwrap_or(house)),
+        Err(why) => {
+            not_rewritten(name, message, &rejection(asked, why), out);
         }
     }
 }

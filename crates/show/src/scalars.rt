@@ -5,9 +5,10 @@ ghost use Rattle.values.specs.Answers.{NansApart};
 
 use crate::floats::Float;
 use crate::quoted::char;
-use format::answers::{Value, Valued};
+use format::answers::{Token, Value};
+use format::refusals::Refusal;
 use wording::block::Block;
-use wording::names::refusal;
+use wording::names;
 
 // A value; floats with their bits.
 fn value(out: &mut Block, v: Value)
@@ -28,16 +29,17 @@ fn value(out: &mut Block, v: Value)
 }
 
 // A refusal's number and its meaning.
-pub fn refused(out: &mut Block, number: u32) {
-    write!(out, "refused {number}, {}", refusal(number as usize));
+pub fn refused(out: &mut Block, refusal: Refusal) {
+    let number = refusal.number();
+    write!(out, "refused {number}, {}", names::refusal(number as usize));
 }
 
 // The value that a call answers, or its refusal.
-pub fn valued(out: &mut Block, answer: Valued)
+pub fn valued(out: &mut Block, answer: Result<Token, Refusal>)
     requires { NansApart answer }
 {
     match answer {
-        Valued::Token(token) => value(out, token.value),
-        Valued::Refused(number) => refused(out, number),
+        Ok(token) => value(out, token.value),
+        Err(refusal) => refused(out, refusal),
     }
 }

@@ -4,7 +4,8 @@ ghost use Rattle.std.specs.Prelude.{◌≡◌};
 use crate::address::indexes;
 use crate::leaf_names::of_leaf;
 use describe::row;
-use format::answers::Located;
+use format::answers::Span;
+use format::refusals::Refusal;
 use format::marks::Mark;
 use grid::{ask, shape};
 use navigate::message::Message;
@@ -61,7 +62,7 @@ impl Slot {
     }
 
     // Where it stands in a message of this size.
-    pub fn located(&self, rows: &[u32], size: u32) -> Located {
+    pub fn located(&self, rows: &[u32], size: u32) -> Result<Span, Refusal> {
         let few = alone(rows, self.row, &self.way);
         let indexes = indexes(&self.indexes);
         ask::located(&few, size, 0, LEAF, indexes, indexes.len())

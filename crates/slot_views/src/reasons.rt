@@ -1,5 +1,6 @@
 // Why an address is refused, in words.
 use crate::address::indexes;
+use format::refusals::Refusal;
 use grid::{held, shape};
 use navigate::message::Message;
 use options::arguments::Address;
@@ -7,9 +8,6 @@ use show::scalars::refused;
 use std::fmt::Display;
 use wording::block::Block;
 use wording::names::{kind, plural};
-
-// The refusal of indexes that are not there.
-pub const NOT_THERE: u32 = 10;
 
 // The first index that is too large, and what it must be below.
 fn first_over(rows: &[u32], row: usize, indexes: &[usize]) -> Option<(usize, usize)> {
@@ -70,10 +68,10 @@ fn of_rows(message: Message, row: usize, leaf: usize, out: &mut Block) {
 }
 
 // A refusal, and what is wrong with the address.
-pub fn refused_at(message: Message, address: &Address, refusal: u32, out: &mut Block) {
+pub fn refused_at(message: Message, address: &Address, refusal: Refusal, out: &mut Block) {
     refused(out, refusal);
     let row = address.row;
-    if refusal == NOT_THERE {
+    if refusal == Refusal::NotThere {
         of_indexes(message.rows, row, indexes(&address.indexes), out);
     } else {
         of_rows(message, row, address.leaf.unwrap_or(0), out);

@@ -3,7 +3,7 @@ use crate::address;
 use crate::one_slot::Slot;
 use describe::row;
 use describe::row::Unit;
-use format::answers::Located;
+use format::answers::Span;
 use grid::held;
 use navigate::message::{Message, payload_end};
 use navigate::room;
@@ -71,11 +71,11 @@ fn filled(message: Message, slot: &Slot, out: &mut Block) {
 // A slot, after where it stands and how wide it is; or why it is refused.
 fn in_line(message: Message, slot: &Slot, out: &mut Block) {
     match slot.located(message.rows, message.size()) {
-        Located::Refused(refusal) => {
+        Err(refusal) => {
             refused(out, refusal);
             out.line();
         }
-        Located::At(first, width) => {
+        Ok(Span { first, width }) => {
             out.right(first, 8);
             out.right(width, 8);
             out.spaces(2);
@@ -108,8 +108,8 @@ fn left_out(message: &[u8], list: &Listing, from: usize, end: usize, out: &mut B
 // A slot beside its bytes, if it has some, after those from a byte on that are left out before it; answers the byte after it.
 fn beside(message: Message, list: &Listing, from: usize, slot: &Slot, out: &mut Block) -> usize {
     match slot.located(message.rows, message.size()) {
-        Located::Refused(_) | Located::At(_, 0) => from,
-        Located::At(first, width) => {
+        Err(_) | Ok(Span { width: 0, .. }) => from,
+        Ok(Span { first, width }) => {
             let end = first.saturating_add(width);
             left_out(message.bytes, list, from, first, out);
             dump::head(out, message.bytes, first, end);

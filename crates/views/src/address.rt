@@ -1,5 +1,6 @@
 // One slot by its address.
-use format::answers::Located;
+use format::answers::Span;
+use format::refusals::Refusal;
 use grid::{ask, held, shape};
 use navigate::message::Message;
 use navigate::way::{Leaves, Way};
@@ -8,7 +9,7 @@ use show::dump;
 use slot_views::address;
 use slot_views::address::indexes;
 use slot_views::one_slot::Slot;
-use slot_views::reasons::{NOT_THERE, are_inside, refused_at};
+use slot_views::reasons::{are_inside, refused_at};
 use wording::block::Block;
 
 // A slot that was asked for: where it stands, what is in it, and the bytes around it.
@@ -33,14 +34,14 @@ fn answered(
     message: Message,
     address: &Address,
     way: Way,
-    answer: Located,
+    answer: Result<Span, Refusal>,
     paint: bool,
     out: &mut Block,
 ) {
     asked(address, out);
     match answer {
-        Located::Refused(refusal) => refused_at(message, address, refusal, out),
-        Located::At(first, width) => {
+        Err(refusal) => refused_at(message, address, refusal, out),
+        Ok(Span { first, width }) => {
             let slot = Slot {
                 row: address.row,
                 way,
@@ -72,7 +73,7 @@ fn one(message: Message, address: &Address, paint: bool, out: &mut Block) {
 fn record(message: Message, address: &Address, paint: bool, out: &mut Block) {
     if !are_inside(message.rows, address) {
         asked(address, out);
-        refused_at(message, address, NOT_THERE, out);
+        refused_at(message, address, Refusal::NotThere, out);
         return;
     }
     for way in Leaves::of(message.rows, address.row) {
