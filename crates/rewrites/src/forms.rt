@@ -2,8 +2,8 @@
 // every array and object, and no type; and no more bytes than these, marks and payloads take, so no `N` and no longer vector.
 ghost use Rattle.std.specs.Prelude.{◌≤◌};
 
+use crate::accepted::{Tokens, has_payload};
 use crate::tally::{Fault, Tally};
-use crate::tokens::{Tokens, has_payload};
 use format::marks::Mark;
 use rows::Row;
 

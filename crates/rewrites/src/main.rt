@@ -2,12 +2,12 @@
 // again.
 #![tactic(auto)]
 
+mod accepted;
 mod answers;
 mod forms;
 mod meanings;
 mod messages;
 mod tally;
-mod tokens;
 
 use messages::Lent;
 use std::io;

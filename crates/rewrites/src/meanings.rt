@@ -1,7 +1,7 @@
 // Whether two messages have the same meaning, as document 01 and requests No. 1 and No. 8 say it: row by row, word by word, and the
 // bytes of the payloads and of the ids.
+use crate::accepted::Tokens;
 use crate::tally::{Fault, Tally};
-use crate::tokens::Tokens;
 use rows::Row;
 
 // The words of a row that have a meaning: kind, count, link, order, parent and depth in every kind; mark, offset and extent where

@@ -1,7 +1,7 @@
 // The messages, each by its number.
+use crate::accepted::Tokens;
 use crate::answers::{Answered, Refused, by_reader, by_rewriter, by_second};
 use crate::tally::{Fault, Tally, add};
-use crate::tokens::Tokens;
 use crate::{forms, meanings};
 use generate::ROOM;
 use memory::filled;
