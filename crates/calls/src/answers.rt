@@ -26,7 +26,12 @@ fn fits(message: &[u8], answer: Result<Span, Refusal>, part: &[u8]) -> bool {
 }
 
 // A text's number, first byte and width, and whether the part of the message is another.
-pub fn text(rt: &impl Print, message: &[u8], answer: Result<Span, Refusal>, part: &[u8]) -> io::Result<()> {
+pub fn text(
+    rt: &impl Print,
+    message: &[u8],
+    answer: Result<Span, Refusal>,
+    part: &[u8],
+) -> io::Result<()> {
     located(rt, answer)?;
     if !fits(message, answer, part) {
         return print!(rt; " another part");

@@ -1,5 +1,7 @@
 // What is counted.
 use crate::answers::{Numbers, Reading};
+use format::answers::Kind;
+use format::marks::Mark;
 use rows::ROW_WORDS;
 use std::fmt;
 
@@ -8,11 +10,6 @@ const NUMBERS: usize = 15;
 
 // The places of the numbers of kinds, which are 1 to 13.
 const KINDS: usize = 14;
-
-// The kind and the mark of a table by columns.
-const TABLE: u32 = 8;
-
-const BY_COLUMNS: u32 = 123;
 
 // What is compared: the readers by the new edition or by the old one, or the editions.
 #[derive(Clone, Copy, PartialEq, Eq)]
@@ -61,7 +58,7 @@ impl Features {
         }
         self.slowest |= *order == 1;
         self.fastest |= *order == 2;
-        self.by_columns |= *kind == TABLE && *mark == BY_COLUMNS;
+        self.by_columns |= *kind == Kind::Table.number() && *mark == u32::from(Mark::OBJECT);
     }
 
     // What the rows of a reading have.

@@ -37,12 +37,7 @@ fn may_have_more(rows: &[u32], row: usize) -> bool {
 }
 
 // The row that a name leads to among the rows that are held: for the call, the link of a row leads no further than they do.
-fn among(
-    message: &[u8],
-    rows: &mut [u32],
-    row: usize,
-    name: &[u8],
-) -> Result<usize, Refusal> {
+fn among(message: &[u8], rows: &mut [u32], row: usize, name: &[u8]) -> Result<usize, Refusal> {
     let whole = load(rows, row);
     let held = before(rows, whole.link as usize);
     let link = u32::try_from(held).unwrap_or(whole.link);

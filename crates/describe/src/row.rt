@@ -2,8 +2,8 @@
 ghost use Rattle.std.specs.Prelude.{◌≡◌, ◌↔◌};
 
 use format::answers::{Kind, Span};
-use format::refusals::Refusal;
 use format::marks::Mark;
+use format::refusals::Refusal;
 use grid::shape;
 use navigate::message::{Message, kind_of};
 use rows::Row;

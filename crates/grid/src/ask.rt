@@ -25,7 +25,13 @@ pub fn located(
 }
 
 // The slot of an element or a record by its number.
-pub fn slot(rows: &[u32], size: u32, row: usize, leaf: usize, number: usize) -> Result<Span, Refusal> {
+pub fn slot(
+    rows: &[u32],
+    size: u32,
+    row: usize,
+    leaf: usize,
+    number: usize,
+) -> Result<Span, Refusal> {
     let indexes = shape::indexes(rows, row, number);
     let n = shape::rank(rows, row);
     located(rows, size, row, leaf, &indexes, n)
@@ -50,7 +56,13 @@ pub fn valued(
 }
 
 // The value of an element or a record by its number.
-pub fn value(message: &[u8], rows: &[u32], row: usize, leaf: usize, number: usize) -> Result<Token, Refusal>
+pub fn value(
+    message: &[u8],
+    rows: &[u32],
+    row: usize,
+    leaf: usize,
+    number: usize,
+) -> Result<Token, Refusal>
     ensures { NansApart result }
 {
     let indexes = shape::indexes(rows, row, number);
@@ -72,7 +84,13 @@ pub fn texted(
 }
 
 // The text of a record by its number.
-pub fn text(message: &[u8], rows: &[u32], row: usize, leaf: usize, number: usize) -> Result<Span, Refusal> {
+pub fn text(
+    message: &[u8],
+    rows: &[u32],
+    row: usize,
+    leaf: usize,
+    number: usize,
+) -> Result<Span, Refusal> {
     let indexes = shape::indexes(rows, row, number);
     let n = shape::rank(rows, row);
     texted(message, rows, row, leaf, &indexes, n)

@@ -1,31 +1,30 @@
 // The shape of a packed array or a table, by the rows that the reader stored.
 ghost use Rattle.std.specs.Prelude.{◌≡◌, length};
 
-use rows::word;
-
-// The kinds of the rows that are asked for here.
-pub const PACKED: usize = 7;
-
-pub const TABLE: usize = 8;
-
-const LEAF: usize = 9;
+use format::answers::Kind;
+use rows::{load, word};
 
 // The order with the first index fastest.
 const FIRST_FASTEST: usize = 2;
 
+// Whether the row is of this kind.
+fn is_a(rows: &[u32], row: usize, kind: Kind) -> bool {
+    load(rows, row).kind == kind.number()
+}
+
 // Whether the row is a packed array's.
 pub fn is_packed(rows: &[u32], row: usize) -> bool {
-    word(rows, row, 0) == PACKED
+    is_a(rows, row, Kind::Packed)
 }
 
 // Whether the row is a table's.
 pub fn is_table(rows: &[u32], row: usize) -> bool {
-    word(rows, row, 0) == TABLE
+    is_a(rows, row, Kind::Table)
 }
 
 // Whether the row is a leaf's.
 pub fn is_leaf(rows: &[u32], row: usize) -> bool {
-    word(rows, row, 0) == LEAF
+    is_a(rows, row, Kind::Leaf)
 }
 
 // The row after a row's last descendant.

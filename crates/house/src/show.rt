@@ -63,12 +63,7 @@ fn done(
 }
 
 // The line of a refusal: rows and output must be zero.
-fn refused(
-    rt: &impl Print,
-    why: Refused,
-    rows: &[u32],
-    output: &[u8],
-) -> io::Result<()> {
+fn refused(rt: &impl Print, why: Refused, rows: &[u32], output: &[u8]) -> io::Result<()> {
     let Refused(refusal, place) = why;
     three(rt, u64::from(refusal.number()), place as u64, 0)?;
     print!(rt; " -")?;

@@ -1,4 +1,5 @@
 // An accepted message with its rows, each a token's.
+use format::answers::Kind;
 use format::marks::Mark;
 use rows::{Row, load};
 
@@ -46,7 +47,7 @@ impl<'a> Tokens<'a> {
 
     // The bytes of an extension's id, its mark and its number; of another row there is none.
     pub fn id(self, r: Row) -> Option<&'a [u8]> {
-        if r.kind != 13 {
+        if r.kind != Kind::Extension.number() {
             return None;
         }
         let first = self.id_place(r);

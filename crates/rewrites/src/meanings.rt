@@ -22,6 +22,7 @@ struct Meaning {
     extent: Option<u32>,
 }
 
+// The kinds stand by the numbers that the format gives them, so that a wrong number in the code shows.
 impl From<Row> for Meaning {
     // The meaning of a row.
     fn from(r: Row) -> Meaning {

@@ -69,10 +69,18 @@ pub fn other_kinds(payload: Payload<'_>, t: &mut Tally) {
     let Payload { rows, size, row } = payload;
     let index = [0usize; 1];
     if !payload.is_packed() {
-        refused(packed_slot(rows, size, row, &index), Refusal::RowsDontFit, t);
+        refused(
+            packed_slot(rows, size, row, &index),
+            Refusal::RowsDontFit,
+            t,
+        );
     }
     if !payload.is_table() {
         let leaf = row.saturating_add(3);
-        refused(table_slot(rows, size, row, leaf, &index), Refusal::RowsDontFit, t);
+        refused(
+            table_slot(rows, size, row, leaf, &index),
+            Refusal::RowsDontFit,
+            t,
+        );
     }
 }
