@@ -4,7 +4,7 @@ use mathlib.Core.Path.{◌≡◌, refl, sym, subst, ◌∙◌}
 use mathlib.Core.Bool.{Bool, true, false}
 use mathlib.Core.List.{List}
 use native.Mathlib.Omega.{arith}
-use lib.ListN.{length, take, drop}
+use lib.ListN.{length}
 use lib.Dec.{ltb}
 use borrow.Author.Tests.{le-leb, lt-leb, ltb-true, lt-ltb, le-ltb}
 use Rattle.format.specs.Conditions.{when◌then◌else◌, same}
@@ -14,10 +14,8 @@ use Rattle.format.specs.Rows.{Row, row_at, rows_in}
 use Rattle.format.specs.Bytes.{bytes, within}
 use Rattle.format.specs.Addresses.{is_key, along}
 use Rattle.format.specs.Lookup.{has_names, find, lookup}
-use Rattle.std.specs.Str.{bytes_eq}
-use Rattle.format.proofs.Parts.{part_is}
+use Rattle.format.proofs.Parts.{inside}
 use Rattle.ways.proofs.Along as Along
-use Rattle.lookup.proofs.Names.{same_bytes}
 use Rattle.lookup.specs.Keys.{member_of}
 
 -- ---- a key and its member
@@ -76,10 +74,14 @@ module _ (m ws name : List ℕ) where
   pub named : ℕ → Bool
   named key = same (bytes m (row_at ws key).payload (row_at ws key).extent) name
 
-  -- as the code compares them
-  pub compared : (key : ℕ) (k : Row) → k ≡ row_at ws key → (r : Bool) → r ≡ bytes_eq (take (k.payload + k.extent - k.payload) (drop k.payload m)) name → r ≡ named key
+  -- by the row that was loaded
+  pub names : (key : ℕ) (k : Row) → k ≡ row_at ws key → named key ≡ same (bytes m k.payload k.extent) name
   unfolding named
-  compared key k e r q = rw (← e) (q ∙ rw part_is (same_bytes (bytes m k.payload k.extent) name))
+  names key k e = rw e
+
+  -- the bytes of a key that was followed lie inside the message
+  pub key_inside : (stop key member : ℕ) (k : Row) → k ≡ row_at ws key → done member ≡ member_of m ws stop key → k.payload + k.extent ≤ length m
+  key_inside stop key member k e d = inside m _ _ (rw (← e) at (member_is m ws stop key member (sym d)).inside)
 
   -- after a key: its member, or those that come after the member
   after : ℕ → ℕ → Bool → ℕ → Outcome ℕ

@@ -26,7 +26,8 @@ fn member(message: &[u8], rows: &[u32], stop: usize, key: usize) -> Result<usize
     Ok(next)
 }
 
-// The members from a key on, up to the container's link.
+// The members from a key on, up to the container's link: a walk over their keys' bytes inside the walk over members, left by label at a
+// mismatch or a find. This form is asked for, so `==` of slices isn't taken.
 fn find(
     message: &[u8],
     rows: &[u32],
@@ -38,17 +39,26 @@ fn find(
     ensures { found result ≡ find_in message.now rows.now name.now (length rows.now) stop from }
 {
     let mut key = from;
-    while key < stop {
+    let mut answer = Err(Refusal::NotThere);
+    'members: while key < stop {
         let value = member(message, rows, stop, key)?;
         let k = load(rows, key);
         let first = k.payload as usize;
-        let bytes = &message[first..first + k.extent as usize];
-        if bytes == name {
-            return Ok(value);
+        let wide = k.extent as usize;
+        let mut i = 0;
+        'bytes: while wide == name.len() {
+            if i == wide {
+                answer = Ok(value);
+                break 'members;
+            }
+            if message[first + i] != name[i] {
+                break 'bytes;
+            }
+            i += 1;
         }
         key = along(rows, Need::Anything, stop, value)?;
     }
-    Err(Refusal::NotThere)
+    answer
 }
 
 // The row of the value or kind of the first member with these bytes for a name, in any words; or 10 or 12.

@@ -1,7 +1,7 @@
 // The records and fixed arrays of a schema, which hold each other: members one after another are a loop, nesting is a call.
 ghost use Rattle.std.specs.Prelude.{◌≡◌, ◌+◌, ◌-◌, ◌≤◌, ◌<◌, length};
 ghost use Rattle.format.specs.Limits.{limit};
-ghost use Rattle.format.specs.Marks.{opens, opening_of};
+ghost use Rattle.format.specs.Marks.{bracket, brace as brace_opening, opens, opening_of};
 ghost use Rattle.format.specs.Answers.{kind_of};
 ghost use Rattle.format.specs.Rows.{row_of};
 ghost use Rattle.format.specs.Schemas.{table_schema};
@@ -62,9 +62,9 @@ fn put_group(
     );
 }
 
-// The kinds of a record, from its `{` to its `}`, or of a fixed array, from its `[` to its `]`, with so many levels of schema nesting
-// left in it.
-pub fn group_kinds(
+// The kinds of a record or of a fixed array, from its opening mark to its closing one, with so many levels of schema nesting left in it.
+#[cycle(array_kinds_group_kinds_opened_kinds_record_kinds)]
+fn group_kinds(
     message: &[u8],
     rows: &mut [u32],
     lent: usize,
@@ -99,7 +99,7 @@ pub fn group_kinds(
                 brace: inner,
                 at: from,
                 row: first,
-            } => group_kinds(
+            } => opened_kinds(
                 message,
                 rows,
                 lent,
@@ -122,6 +122,70 @@ pub fn group_kinds(
     }
 }
 
+// The kinds of a record, from its `{` to its `}`.
+#[cycle(array_kinds_group_kinds_opened_kinds_record_kinds)]
+pub fn record_kinds(
+    message: &[u8],
+    rows: &mut [u32],
+    lent: usize,
+    levels: usize,
+    at: usize,
+    row: usize,
+    offset: usize,
+    ancestry: Ancestry,
+) -> Result<Kinds, Refused>
+    requires { Here message.now lent at row × (at < length message.now) × (row < lent) × (offset ≤ over) × (ancestry.depth ≤ at) }
+    ensures meets { Meets result (group_from message.now lent levels brace_opening at row) row offset (ancestry_of ancestry) rows.old rows.new }
+    ensures bounds { Within result (at + 1) (length message.now) lent offset }
+{
+    group_kinds(message, rows, lent, true, levels, at, row, offset, ancestry)
+}
+
+// The kinds of a fixed array, from its `[` to its `]`.
+#[cycle(array_kinds_group_kinds_opened_kinds_record_kinds)]
+pub fn array_kinds(
+    message: &[u8],
+    rows: &mut [u32],
+    lent: usize,
+    levels: usize,
+    at: usize,
+    row: usize,
+    offset: usize,
+    ancestry: Ancestry,
+) -> Result<Kinds, Refused>
+    requires { Here message.now lent at row × (at < length message.now) × (row < lent) × (offset ≤ over) × (ancestry.depth ≤ at) }
+    ensures meets { Meets result (group_from message.now lent levels bracket at row) row offset (ancestry_of ancestry) rows.old rows.new }
+    ensures bounds { Within result (at + 1) (length message.now) lent offset }
+{
+    group_kinds(
+        message, rows, lent, false, levels, at, row, offset, ancestry,
+    )
+}
+
+// The kinds of what a member opens.
+#[cycle(array_kinds_group_kinds_opened_kinds_record_kinds)]
+fn opened_kinds(
+    message: &[u8],
+    rows: &mut [u32],
+    lent: usize,
+    brace: bool,
+    levels: usize,
+    at: usize,
+    row: usize,
+    offset: usize,
+    ancestry: Ancestry,
+) -> Result<Kinds, Refused>
+    requires { Here message.now lent at row × (at < length message.now) × (row < lent) × (offset ≤ over) × (ancestry.depth ≤ at) }
+    ensures meets { Meets result (group_from message.now lent levels (opening_of brace) at row) row offset (ancestry_of ancestry) rows.old rows.new }
+    ensures bounds { Within result (at + 1) (length message.now) lent offset }
+{
+    if brace {
+        record_kinds(message, rows, lent, levels, at, row, offset, ancestry)
+    } else {
+        array_kinds(message, rows, lent, levels, at, row, offset, ancestry)
+    }
+}
+
 // A table's schema, whose `{` stands at `at`; the offset after it is the record's width.
 pub fn table_schema(
     message: &[u8],
@@ -138,15 +202,5 @@ pub fn table_schema(
     if lent <= row {
         return Err(Refused(Refusal::NoRowLeft, at));
     }
-    group_kinds(
-        message,
-        rows,
-        lent,
-        true,
-        SCHEMA_LEVELS - 1,
-        at,
-        row,
-        0,
-        ancestry,
-    )
+    record_kinds(message, rows, lent, SCHEMA_LEVELS - 1, at, row, 0, ancestry)
 }
