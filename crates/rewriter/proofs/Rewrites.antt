@@ -102,7 +102,7 @@ module _ (m ws : List ℕ) (grammar : Grammar) where
     ends = put_all.reach ∙ omega arith
 
     only_house : end ≤ length before → cleared_from after end ≡ filled (length before) (house m a.tokens)
-    unfolding cleared_from filled
+    unfolding filled
     only_house h =
         let x = house m a.tokens in
         let s = put_all.there h ∙ sets-eq x before 0 (let e = ends in omega arith) in
