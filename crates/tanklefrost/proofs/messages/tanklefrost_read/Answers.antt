@@ -8,7 +8,10 @@ use Rattle.tanklefrost.proofs.messages.tanklefrost_read.Goals as goal
 
 pub returns-in_default : goal.returns-in_default
 unfolding rows_used words_after number_of place_of or_zero
-returns-in_default c = let a = c.in_default in ?
+returns-in_default c =
+    rw (read_by_none _ c.in_default.ensures _ _) (record { answer = c.from.ensures; words = c.clear.ensures })
 
 pub returns : goal.returns
-returns c = let a = c.in-Some in ?
+returns c =
+    let read = c.read.ensures in
+    rw (read_by _ _ c.in-Some.ensures _ _) (record { answer = c.from-2.ensures ∙ ap reading_for read.answer; words = read.words })
