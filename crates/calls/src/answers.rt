@@ -4,7 +4,6 @@ ghost use Rattle.format.specs.Answers.{nan_apart};
 ghost use Rattle.values.specs.Answers.{NansApart};
 
 use format::answers::{Found, Located, Value, Valued};
-use lines::numbers::stand_at;
 use lines::show::three;
 use std::io;
 
@@ -20,7 +19,10 @@ pub fn located(rt: &impl Print, answer: Located) -> io::Result<()> {
 fn fits(message: &[u8], answer: Located, part: &[u8]) -> bool {
     match answer {
         Located::Refused(_) => part.is_empty(),
-        Located::At(first, wide) => part.len() == wide && stand_at(message, first, part),
+        Located::At(first, wide) => {
+            let rest = message.get(first..).unwrap_or(&[]);
+            rest.get(..wide) == Some(part)
+        }
     }
 }
 
