@@ -5,7 +5,6 @@ ghost use Rattle.values.specs.Answers.{NansApart};
 
 use format::answers::{Span, Token, Value};
 use format::refusals::Refusal;
-use lines::numbers::stand_at;
 use lines::show::three;
 use std::io;
 
@@ -21,7 +20,10 @@ pub fn located(rt: &impl Print, answer: Result<Span, Refusal>) -> io::Result<()>
 fn fits(message: &[u8], answer: Result<Span, Refusal>, part: &[u8]) -> bool {
     match answer {
         Err(_) => part.is_empty(),
-        Ok(Span { first, width }) => part.len() == width && stand_at(message, first, part),
+        Ok(Span { first, width }) => {
+            let rest = message.get(first..).unwrap_or(&[]);
+            rest.get(..width) == Some(part)
+        }
     }
 }
 

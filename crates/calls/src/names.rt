@@ -1,4 +1,5 @@
 // The calls by name.
+use lines::text::Text;
 
 // A call of the library.
 #[derive(Clone, Copy)]
@@ -13,11 +14,10 @@ pub enum Call {
     Lookup,
 }
 
-// The call whose name stands at a place, with a space after it.
-pub fn named(text: &[u8], at: usize) -> Option<Call> {
-    let rest = text.get(at..)?;
-    let end = rest.iter().position(|b| *b == b' ')?;
-    match &rest[..end] {
+// The call whose name stands at the front, with a space after it.
+pub fn named(text: Text<'_>) -> Option<Call> {
+    let end = text.rest.iter().position(|b| *b == b' ')?;
+    match &text.rest[..end] {
         b"packed_slot" => Some(Call::PackedSlot),
         b"table_slot" => Some(Call::TableSlot),
         b"value_at_row" => Some(Call::ValueAtRow),

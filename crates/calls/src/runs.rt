@@ -3,8 +3,7 @@ use crate::lists::{NUMBERS, list, row_words};
 use crate::names::{Call, named};
 use crate::{answers, lists};
 use addresses::calls::{packed_slot, table_slot};
-use lines::numbers::{decimal, past};
-use lines::words::word;
+use lines::text::Text;
 use lookup::lookup;
 use memory::filled;
 use slots::text::{number_in_table, text_in_table};
@@ -63,57 +62,53 @@ fn answer(rt: &impl Print, message: &[u8], rows: &[u32], asked: Asked<'_>) -> io
     }
 }
 
-// The row, the leaf, the indexes and the name from a place on.
+// The row, the leaf, the indexes and the name at the front of what is left of a line.
 fn ask(
     rt: &impl Print,
-    text: &[u8],
-    at: usize,
+    mut line: Text<'_>,
     call: Option<Call>,
     message: &[u8],
     rows: &[u32],
 ) -> io::Result<()> {
-    let row = decimal(text, at);
-    let second = past(text, at, b' ');
-    let leaf = decimal(text, second);
-    let third = past(text, second, b' ');
+    let row = line.decimal();
+    line.past(b' ');
+    let leaf = line.decimal();
+    line.past(b' ');
     let mut indexes = filled::<usize, NUMBERS>(0);
-    let n = list(text, third, &mut indexes);
+    let n = list(&mut line, &mut indexes);
+    line.past(b' ');
     let mut name = filled::<u8, BYTES>(0);
-    let w = word(text, past(text, third, b' '), &mut name, 0);
+    let k = line.word(&mut name, 0).min(BYTES);
     let asked = Asked {
         call,
-        row: row.value,
-        leaf: leaf.value,
+        row,
+        leaf,
         indexes: &indexes[..n],
-        name: &name[..w.value.min(BYTES)],
+        name: &name[..k],
     };
     answer(rt, message, rows, asked)?;
     rt.println("")
 }
 
-// One line.
-fn one(rt: &impl Print, text: &[u8], at: usize) -> io::Result<()> {
-    let first = past(text, at, b' ');
+// One line. One with too few fields reads on in the next.
+fn one(rt: &impl Print, mut line: Text<'_>) -> io::Result<()> {
+    let call = named(line);
+    line.past(b' ');
     let mut message = filled::<u8, BYTES>(0);
-    let w = word(text, first, &mut message, 0);
-    let n = w.value.min(BYTES);
-    let second = past(text, first, b' ');
+    let n = line.word(&mut message, 0).min(BYTES);
+    line.past(b' ');
     let mut rows = filled::<u32, WORDS>(0);
-    let k = row_words(text, second, &mut rows);
-    let third = past(text, second, b' ');
-    ask(rt, text, third, named(text, at), &message[..n], &rows[..k])
+    let k = row_words(&mut line, &mut rows);
+    line.past(b' ');
+    ask(rt, line, call, &message[..n], &rows[..k])
 }
 
 // Every line.
-pub fn all(rt: &impl Print, text: &[u8]) -> io::Result<()> {
-    let mut at: usize = 0;
-    while at < text.len() {
-        one(rt, text, at)?;
-        let next = past(text, at, b'\n');
-        if next <= at {
-            return Ok(());
-        }
-        at = next;
+pub fn all(rt: &impl Print, input: &[u8]) -> io::Result<()> {
+    let mut text = Text { rest: input };
+    while !text.rest.is_empty() {
+        one(rt, text)?;
+        text.past(b'\n');
     }
     Ok(())
 }

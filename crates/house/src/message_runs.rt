@@ -1,11 +1,9 @@
 // The lines of the input: the edition's letter, the rows lent, the bytes of output lent, and a message.
-ghost use Rattle.std.specs.Prelude.{◌≤◌};
+ghost use Rattle.std.specs.Prelude.{◌≤◌, ◌<◌, length};
 
 use crate::show;
 use format::answers::Edition;
-use lines::editions::edition;
-use lines::numbers::{after, decimal};
-use lines::words::stored;
+use lines::text::Text;
 use memory::filled;
 use rows::ROW_WORDS;
 use std::io;
@@ -39,33 +37,30 @@ fn run(
     show::line(rt, edition, message, &mut rows[..n], &mut read[..n], output)
 }
 
-// One line; answers the place of the next.
+// One line.
 fn one(
     rt: &impl Print,
-    text: &[u8],
-    at: usize,
+    text: &mut Text<'_>,
     message: &mut [u8],
     output: &mut [u8],
-) -> io::Result<usize> {
-    let named = edition(text, at);
-    let lent = decimal(text, after(after(at)));
-    let room = decimal(text, after(lent.next));
-    let w = stored(text, room.next, message);
-    let n = w.value.min(message.len());
-    let k = room.value.min(output.len());
-    run(rt, named, &message[..n], lent.value, &mut output[..k])?;
-    Ok(after(w.next))
+) -> io::Result<()>
+    ensures { 0 < length text.old.rest.now → length text.new.rest.now < length text.old.rest.now }
+{
+    let edition = text.edition();
+    text.skip();
+    let lent = text.decimal();
+    text.skip();
+    let room = text.decimal().min(output.len());
+    let n = text.stored(message).min(message.len());
+    text.skip();
+    run(rt, edition, &message[..n], lent, &mut output[..room])
 }
 
 // Every line.
-pub fn all(rt: &impl Print, text: &[u8], message: &mut [u8], output: &mut [u8]) -> io::Result<()> {
-    let mut at: usize = 0;
-    while at < text.len() {
-        let next = one(rt, text, at, message, output)?;
-        if next <= at {
-            return Ok(());
-        }
-        at = next;
+pub fn all(rt: &impl Print, input: &[u8], message: &mut [u8], output: &mut [u8]) -> io::Result<()> {
+    let mut text = Text { rest: input };
+    while !text.rest.is_empty() {
+        one(rt, &mut text, message, output)?;
     }
     Ok(())
 }

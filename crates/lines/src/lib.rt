@@ -1,9 +1,9 @@
 // Lines of test data, as the programs read and write them.
 #![tactic(auto)]
 
-pub mod editions;
 pub mod input;
 pub mod numbers;
 pub mod show;
 pub mod signed;
-pub mod words;
+pub mod text;
+mod words;

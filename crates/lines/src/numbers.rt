@@ -19,7 +19,7 @@ pub fn after(at: usize) -> usize {
 }
 
 // The bytes from a place on.
-pub(crate) fn rest(text: &[u8], from: usize) -> &[u8]
+fn rest(text: &[u8], from: usize) -> &[u8]
     ensures { length result.now ≤ length text.now }
 {
     text.get(from..).unwrap_or(&[])
@@ -57,9 +57,4 @@ pub fn past(text: &[u8], from: usize, stop: u8) -> usize {
         Some(before) => after(from.saturating_add(before)),
         None => from.max(text.len()),
     }
-}
-
-// Whether these bytes stand at a place.
-pub fn stand_at(text: &[u8], from: usize, part: &[u8]) -> bool {
-    rest(text, from).starts_with(part)
 }

@@ -1,11 +1,13 @@
 // The words of a message: hex bytes, or hex bytes to be repeated.
-ghost use Rattle.std.specs.Prelude.{◌<◌, ◌≤◌, length, IfSome};
+ghost use Rattle.std.specs.Prelude.{◌≡◌, ◌==◌, ◌<◌, ◌≤◌, false, length, slice_index_or, IfSome, IsNone};
+ghost use Rattle.std.specs.Char.{is_ascii_digit};
 
-use crate::numbers::{Number, after, byte, decimal, rest};
+use crate::text::Text;
 
 // What a hex digit stands for; nothing for any other byte.
 fn digit(b: u8) -> Option<u8>
-    ensures { IfSome result (λ d. d < 16) }
+    ensures some { IfSome result (λ d. d < 16) }
+    ensures none { IsNone result → is_ascii_digit b ≡ false }
 {
     match b {
         b'0'..=b'9' => Some(b - b'0'),
@@ -20,15 +22,6 @@ fn pair(high: u8, low: u8) -> u8 {
         (Some(h), Some(l)) => h * 16 + l,
         _ => 0,
     }
-}
-
-// The hex digits at a place, up to the first other byte.
-fn digits(text: &[u8], from: usize) -> &[u8]
-    ensures { length result.now ≤ length text.now }
-{
-    let after = rest(text, from);
-    let end = after.iter().position(|b| digit(*b).is_none());
-    &after[..end.unwrap_or(after.len())]
 }
 
 // Stores the bytes that hex digits stand for from a place on, as far as there is room; answers the place after the last.
@@ -50,35 +43,48 @@ fn repeated(hex: &[u8], times: usize, message: &mut [u8], first: usize) -> usize
     n
 }
 
-// How often a word is to be stored, and the place after the word.
-fn times(text: &[u8], at: usize) -> Number {
-    match byte(text, at) {
-        b'*' => decimal(text, after(at)),
-        _ => Number { value: 1, next: at },
+impl<'a> Text<'a> {
+    // Takes the hex digits at the front, up to the first other byte.
+    fn hex(&mut self) -> &'a [u8]
+        ensures rest { length self.new.rest.now ≤ length self.old.rest.now }
+        ensures stops { is_ascii_digit (slice_index_or self.new.rest.now 0 10) ≡ false }
+    {
+        let end = self.rest.iter().position(|b| digit(*b).is_none());
+        self.take(end.unwrap_or(self.rest.len()))
     }
-}
 
-// Stores one word from a place of the message on; answers the place after its last byte in the message, and the place after it in the text.
-pub fn word(text: &[u8], at: usize, message: &mut [u8], first: usize) -> Number {
-    let hex = digits(text, at);
-    let times = times(text, at.saturating_add(hex.len()));
-    Number {
-        value: repeated(hex, times.value, message, first),
-        next: times.next,
-    }
-}
-
-// Stores the words that follow, each after a space; answers the message's length, and the place after them.
-pub fn stored(text: &[u8], from: usize, message: &mut [u8]) -> Number {
-    let mut at = from;
-    let mut n: usize = 0;
-    while at < text.len() && byte(text, at) == b' ' {
-        let w = word(text, at + 1, message, n);
-        if w.next <= at {
-            return w;
+    // Takes how often a word is to be stored.
+    fn times(&mut self) -> usize
+        ensures rest { length self.new.rest.now ≤ length self.old.rest.now }
+        ensures stops { is_ascii_digit (slice_index_or self.old.rest.now 0 10) ≡ false → is_ascii_digit (slice_index_or self.new.rest.now 0 10) ≡ false }
+    {
+        if self.byte() != b'*' {
+            return 1;
         }
-        n = w.value;
-        at = w.next;
+        self.skip();
+        self.decimal()
     }
-    Number { value: n, next: at }
+
+    // Takes one word, and stores it from a place of the message on; answers the place after its last byte.
+    pub fn word(&mut self, message: &mut [u8], first: usize) -> usize
+        ensures rest { length self.new.rest.now ≤ length self.old.rest.now }
+        ensures stops { is_ascii_digit (slice_index_or self.new.rest.now 0 10) ≡ false }
+    {
+        let hex = self.hex();
+        let times = self.times();
+        repeated(hex, times, message, first)
+    }
+
+    // Takes the words that follow, each after a space, and stores them; answers the message's length.
+    pub fn stored(&mut self, message: &mut [u8]) -> usize
+        ensures rest { length self.new.rest.now ≤ length self.old.rest.now }
+        ensures stops { (slice_index_or self.new.rest.now 0 10 == 32) ≡ false }
+    {
+        let mut n: usize = 0;
+        while self.byte() == b' ' {
+            self.skip();
+            n = self.word(message, n);
+        }
+        n
+    }
 }

@@ -14,7 +14,12 @@ use rows::clear;
 
 // Writes a message in house form: the bytes written, or a refusal's number and place. The rows then hold the message's rows. What
 // isn't filled of rows and output is zero, on refusal all.
-pub fn rewrite(edition: Edition, message: &[u8], rows: &mut [u32], output: &mut [u8]) -> Result<usize, Refused>
+pub fn rewrite(
+    edition: Edition,
+    message: &[u8],
+    rows: &mut [u32],
+    output: &mut [u8],
+) -> Result<usize, Refused>
     ensures answer { answered result ≡ bytes_written (rewrite_of message.now (rows_in rows.old) (grammar_of edition) (length output.old)) }
     ensures output { output.new ≡ output_after (length output.old) (rewrite_of message.now (rows_in rows.old) (grammar_of edition) (length output.old)) }
     ensures words { rows.new ≡ rewrite_words_after (length rows.old) (read_into message.now rows.old (grammar_of edition)) (rewrite_of message.now (rows_in rows.old) (grammar_of edition) (length output.old)) }

@@ -1,9 +1,9 @@
 // The lines of the input: the edition's letter, the rows lent, and a message.
+ghost use Rattle.std.specs.Prelude.{◌<◌, length};
+
 use crate::show;
 use format::answers::Edition;
-use lines::editions::edition;
-use lines::numbers::{after, decimal};
-use lines::words::stored;
+use lines::text::Text;
 use memory::filled;
 use rows::ROW_WORDS;
 use std::io;
@@ -20,25 +20,23 @@ fn run(rt: &impl Print, edition: Edition, message: &[u8], lent: usize) -> io::Re
     show::line(rt, edition, message, &mut rows[..n])
 }
 
-// One line; answers the place of the next.
-fn one(rt: &impl Print, text: &[u8], at: usize, message: &mut [u8]) -> io::Result<usize> {
-    let named = edition(text, at);
-    let lent = decimal(text, after(after(at)));
-    let w = stored(text, lent.next, message);
-    let n = w.value.min(message.len());
-    run(rt, named, &message[..n], lent.value)?;
-    Ok(after(w.next))
+// One line.
+fn one(rt: &impl Print, text: &mut Text<'_>, message: &mut [u8]) -> io::Result<()>
+    ensures { 0 < length text.old.rest.now → length text.new.rest.now < length text.old.rest.now }
+{
+    let edition = text.edition();
+    text.skip();
+    let lent = text.decimal();
+    let n = text.stored(message).min(message.len());
+    text.skip();
+    run(rt, edition, &message[..n], lent)
 }
 
 // Every line.
-pub fn all(rt: &impl Print, text: &[u8], message: &mut [u8]) -> io::Result<()> {
-    let mut at: usize = 0;
-    while at < text.len() {
-        let next = one(rt, text, at, message)?;
-        if next <= at {
-            return Ok(());
-        }
-        at = next;
+pub fn all(rt: &impl Print, input: &[u8], message: &mut [u8]) -> io::Result<()> {
+    let mut text = Text { rest: input };
+    while !text.rest.is_empty() {
+        one(rt, &mut text, message)?;
     }
     Ok(())
 }
