@@ -54,6 +54,7 @@ pub fn header_at(
 }
 
 // True at opening marks only. That it is true at all of them is for speed, and not promised; so with the next two.
+#[tactic(auto, unfolding(format::specs::Marks::opens))]
 pub fn is_opening(b: u8) -> bool
     ensures { result ≡ true → b ≡ opens (opening_of (eqb b left_brace)) }
 {

@@ -13,11 +13,6 @@ pub returns-then-lent-row-clause-meets : goal.returns-then-lent-row-clause-meets
 unfolding extension row_left guard ◌>>◌
 returns-then-lent-row-clause-meets c = rw (le-ltb _ _ c.if-lent-row.true)
 
-pub returns-in_err-head-clause-meets : goal.returns-in_err-head-clause-meets
-returns-in_err-head-clause-meets c =
-    let p = err_from_is_err_and c.from_residual.result c.from_residual.ensures.1 in
-    rw (p.1, p.2) (c.in_err-head.ensures.meets _ _ c.if-lent-row.false)
-
 pub returns-in_err-next-clause-meets : goal.returns-in_err-next-clause-meets
 unfolding ◌>>=◌
 returns-in_err-next-clause-meets c =

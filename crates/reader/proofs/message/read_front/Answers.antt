@@ -8,22 +8,18 @@ use Rattle.reader.proofs.message.read_front.Goals as goal
 
 pub returns-in-Err-clause-answer : goal.returns-in-Err-clause-answer
 unfolding read_whole
-returns-in-Err-clause-answer c =
-    let q = rw c.in-Err.is at c.read_core.ensures.meets in
-    let k : length c.read_core.new.rows ≡ length c.args.rows.now = omega arith in c.refused.ensures.answer ∙ refused _ _ _ q
+returns-in-Err-clause-answer c = c.refused.ensures.answer ∙ refused _ _ _ c.in-Err.ensures.meets
 
 pub returns-in-Err-clause-words : goal.returns-in-Err-clause-words
 unfolding read_whole
 returns-in-Err-clause-words c =
-    let q = rw c.in-Err.is at c.read_core.ensures.meets in
-    let k : length c.read_core.new.rows ≡ length c.args.rows.now = omega arith in c.refused.ensures.words ∙ rw k (front_zero _ _ _ _ q)
+    let k : length c.read_core.new.rows ≡ length c.args.rows.now = omega arith in
+    c.refused.ensures.words ∙ rw k (front_zero _ _ _ _ c.in-Err.ensures.meets)
 
 pub returns-in-Ok-clause-answer : goal.returns-in-Ok-clause-answer
 unfolding read_whole
-returns-in-Ok-clause-answer c =
-    let l = rw c.clear.ensures at (rw c.in-Ok.is at c.read_core.ensures.meets) in used _ _ _ _ l
+returns-in-Ok-clause-answer c = used _ _ _ _ (rw c.clear.ensures at c.in-Ok.ensures.meets)
 
 pub returns-in-Ok-clause-words : goal.returns-in-Ok-clause-words
 unfolding read_whole
-returns-in-Ok-clause-words c =
-    let l = rw c.clear.ensures at (rw c.in-Ok.is at c.read_core.ensures.meets) in front_filled _ _ _ _ l
+returns-in-Ok-clause-words c = front_filled _ _ _ _ (rw c.clear.ensures at c.in-Ok.ensures.meets)
