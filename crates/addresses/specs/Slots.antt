@@ -1,5 +1,5 @@
 -- What the answers about slots and positions stand for.
-use Rattle.std.specs.Prelude.{ℕ, ◌+◌, ◌*◌, ◌≡◌, true, List, eqb}
+use Rattle.std.specs.Prelude.{ℕ, ◌+◌, ◌*◌, ◌≡◌, true, List, eqb, Result, Ok, Err}
 use Rattle.format.specs.Conditions.{when◌then◌else◌}
 use Rattle.format.specs.Outcome.{Outcome, fault, done, guard, ◌>>=◌}
 use Rattle.format.specs.Refusals.{not_there}
@@ -8,15 +8,14 @@ use Rattle.format.specs.Rows.{row_at}
 use Rattle.format.specs.Indexes.{in_range, number_in}
 use Rattle.format.specs.Addresses.{Region, dimensions, inside}
 use Rattle.indexes.specs.Sums.{capped}
+use Rattle.format.specs.Answers.{refusal_number}
+use Rattle.format.specs.declared.refusals.Refusal.{Refusal}
 use Rattle.addresses.specs.declared.slots.Slot.{Slot}
-use Rattle.addresses.specs.declared.slots.Slot.TheVariants.{Refused, At}
-use Rattle.addresses.specs.declared.slots.Position.{Position}
-use Rattle.addresses.specs.declared.slots.Position.TheVariants.{Refused as NoPosition, At as Numbered}
 
 -- the region, or the refusal's number
-abbrev pub slot_of : Slot → Outcome Region
-slot_of (Refused n) = fault n 0
-slot_of (At mark first wide) = done (record { mark = mark; first = first; wide = wide })
+abbrev pub slot_of : Result Slot Refusal → Outcome Region
+slot_of (Err r) = fault (refusal_number r) 0
+slot_of (Ok s) = done (record { mark = s.mark; first = s.span.first; wide = s.span.width })
 
 -- a leaf's slot in record r of a table, by 01's formulas
 unfoldable pub in_record : List ℕ → ℕ → ℕ → ℕ → ℕ → ℕ → Outcome Region
@@ -35,6 +34,6 @@ pub record Placed (ws : List ℕ) (container from : ℕ) (is : List ℕ) (n : �
   pub number : n ≡ capped (number_in (row_at ws container).order extents is)
 
 -- the answer about indexes: a refusal of the rows, then of the indexes; or their number
-abbrev pub Positions : List ℕ → ℕ → ℕ → List ℕ → Position → Type 0
-Positions ws container from is (NoPosition n) = (dimensions ws container from >>= λ ds. guard (in_range ds is) not_there 0) ≡ fault n 0
-Positions ws container from is (Numbered n) = Placed ws container from is n
+abbrev pub Positions : List ℕ → ℕ → ℕ → List ℕ → Result ℕ Refusal → Type 0
+Positions ws container from is (Err r) = (dimensions ws container from >>= λ ds. guard (in_range ds is) not_there 0) ≡ fault (refusal_number r) 0
+Positions ws container from is (Ok n) = Placed ws container from is n

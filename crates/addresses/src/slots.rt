@@ -1,100 +1,86 @@
-// A slot: the mark that its bytes are read under, its first byte and its width. `size` is the message's length, below 2^63 as
-// every slice's is.
+// A slot: the mark that its bytes are read under, and where they stand. `size` is the message's length, below 2^63 as every
+// slice's is.
 ghost use Rattle.std.specs.Prelude.{◌≡◌, List, ℕ, ◌+◌, ◌*◌, ◌^◌, ◌<◌, ◌≤◌};
 ghost use Rattle.format.specs.Rows.{row_at, rows_in};
 ghost use Rattle.format.specs.Addresses as Addresses;
 ghost use Rattle.indexes.specs.Sums.{capped};
 ghost use Rattle.addresses.specs.Slots.{slot_of, Positions, in_record};
 
-use format::answers::Found;
+use format::answers::Span;
 use format::limits::DIMENSION_LIMIT;
 use format::marks::Mark;
-use indexes::sums::{plus, times};
+use format::refusals::Refusal;
 use indexes::{in_range, number};
 use rows::{count, load};
-use ways::dimensions::{Gathered, extents};
+use ways::dimensions::extents;
 use ways::links::{along, along_child};
 use ways::members::field;
 use ways::needs::Need;
 
 #[derive(Clone, Copy)]
-pub enum Slot {
-    Refused(u32),
-    At(u32, usize, usize),
-}
-
-// The number of an element or record in storage order, capped; or a refusal's number.
-#[derive(Clone, Copy)]
-pub enum Position {
-    Refused(u32),
-    At(usize),
+pub struct Slot {
+    pub mark: u32,
+    pub span: Span,
 }
 
 // A slot, `less` bytes before `start`, must be inside the message.
-fn inside(size: usize, mark: u32, start: usize, less: u32, wide: u32) -> Slot
+fn inside(size: usize, mark: u32, start: usize, less: u32, wide: u32) -> Result<Slot, Refusal>
     requires { size < 2 ^ 63 }
     ensures { (ws : List ℕ) (total : ℕ) → start ≡ capped total → slot_of result ≡ Addresses.inside ws size mark total less wide }
 {
     let back = less as usize;
+    let width = wide as usize;
     if start < back {
-        return Slot::Refused(12);
+        return Err(Refusal::RowsDontFit);
     }
     let first = start - back;
-    if size < first {
-        return Slot::Refused(12);
+    if size < first || size - first < width {
+        return Err(Refusal::RowsDontFit);
     }
-    let width = wide as usize;
-    if size - first < width {
-        return Slot::Refused(12);
-    }
-    Slot::At(mark, first, width)
+    Ok(Slot {
+        mark,
+        span: Span { first, width },
+    })
 }
 
 // So many bytes after a place, for each of a number, and then an offset.
 fn start(from: usize, number: usize, each: usize, offset: u32) -> usize
     ensures { (place many : ℕ) → from ≡ capped place → number ≡ capped many → result ≡ capped (place + many * each + offset) }
 {
-    plus(plus(from, times(number, each)), offset as usize)
+    from.saturating_add(number.saturating_mul(each))
+        .saturating_add(offset as usize)
 }
 
-// The position that indexes have in a container, whose dimensions stand from a row on.
-fn positioned(rows: &[u32], container: usize, from: usize, indexes: &[usize]) -> Position
+// The number in storage order, capped, that indexes have in a container, whose dimensions stand from a row on.
+fn positioned(
+    rows: &[u32],
+    container: usize,
+    from: usize,
+    indexes: &[usize],
+) -> Result<usize, Refusal>
     requires { (container < rows_in rows.now) × ((row_at rows.now container).link ≤ rows_in rows.now) }
     ensures { Positions rows.now container from indexes.now result }
 {
     let mut into = [0u32; DIMENSION_LIMIT];
-    match extents(rows, container, from, &mut into) {
-        Gathered::Refused(number) => Position::Refused(number),
-        Gathered::Many(many) => {
-            let dims = &into[..many];
-            if !in_range(dims, indexes) {
-                return Position::Refused(10);
-            }
-            let order = load(rows, container).order;
-            Position::At(number(order, dims, indexes))
-        }
+    let many = extents(rows, container, from, &mut into)?;
+    let dims = &into[..many];
+    if !in_range(dims, indexes) {
+        return Err(Refusal::NotThere);
     }
+    Ok(number(load(rows, container).order, dims, indexes))
 }
 
 // A packed row and indexes.
-pub fn packed(rows: &[u32], size: usize, row: usize, indexes: &[usize]) -> Slot
+pub fn packed(rows: &[u32], size: usize, row: usize, indexes: &[usize]) -> Result<Slot, Refusal>
     requires { size < 2 ^ 63 }
     ensures { slot_of result ≡ Addresses.packed_slot rows.now size row indexes.now }
 {
-    let end = count(rows);
-    match along(rows, Need::Packed, end, row) {
-        Found::Refused(number) => return Slot::Refused(number),
-        Found::Row(_) => {}
-    }
-    match positioned(rows, row, row + 1, indexes) {
-        Position::Refused(number) => Slot::Refused(number),
-        Position::At(number) => {
-            let p = load(rows, row);
-            let wide = Mark::of(p.mark).width();
-            let from = start(p.payload as usize, number, wide, 0);
-            inside(size, p.mark, from, 0, wide as u32)
-        }
-    }
+    along(rows, Need::Packed, count(rows), row)?;
+    let number = positioned(rows, row, row + 1, indexes)?;
+    let p = load(rows, row);
+    let wide = Mark::of(p.mark).width();
+    let from = start(p.payload as usize, number, wide, 0);
+    inside(size, p.mark, from, 0, wide as u32)
 }
 
 // A leaf's slot in a record of a table, by the number of the record.
@@ -105,7 +91,7 @@ fn in_record(
     leaf: usize,
     field: usize,
     number: usize,
-) -> Slot
+) -> Result<Slot, Refusal>
     requires { (size < 2 ^ 63) × (row + 1 < rows_in rows.now) × (leaf < rows_in rows.now) × (field < rows_in rows.now) }
     ensures { (r : ℕ) → number ≡ capped r → slot_of result ≡ in_record rows.now size row leaf field r }
 {
@@ -118,31 +104,25 @@ fn in_record(
         return inside(size, o.mark, from, 0, o.extent);
     }
     let f = load(rows, field);
-    let column = plus(payload, times(t.count as usize, f.payload as usize));
+    let column = payload.saturating_add((t.count as usize).saturating_mul(f.payload as usize));
     let from = start(column, number, f.extent as usize, o.payload);
     inside(size, o.mark, from, f.payload, o.extent)
 }
 
 // A table row, a leaf row and indexes.
-pub fn table(rows: &[u32], size: usize, row: usize, leaf: usize, indexes: &[usize]) -> Slot
+pub fn table(
+    rows: &[u32],
+    size: usize,
+    row: usize,
+    leaf: usize,
+    indexes: &[usize],
+) -> Result<Slot, Refusal>
     requires { size < 2 ^ 63 }
     ensures { slot_of result ≡ Addresses.table_slot rows.now size row leaf indexes.now }
 {
-    let end = count(rows);
-    let stop = match along(rows, Need::Table, end, row) {
-        Found::Refused(number) => return Slot::Refused(number),
-        Found::Row(link) => link,
-    };
-    let from = match along_child(rows, row, Need::Schema, stop, row + 1) {
-        Found::Refused(number) => return Slot::Refused(number),
-        Found::Row(link) => link,
-    };
-    let top = match field(rows, leaf, row + 1, row + 2) {
-        Found::Refused(number) => return Slot::Refused(number),
-        Found::Row(at) => at,
-    };
-    match positioned(rows, row, from, indexes) {
-        Position::Refused(number) => Slot::Refused(number),
-        Position::At(number) => in_record(rows, size, row, leaf, top, number),
-    }
+    let stop = along(rows, Need::Table, count(rows), row)?;
+    let from = along_child(rows, row, Need::Schema, stop, row + 1)?;
+    let top = field(rows, leaf, row + 1, row + 2)?;
+    let number = positioned(rows, row, from, indexes)?;
+    in_record(rows, size, row, leaf, top, number)
 }

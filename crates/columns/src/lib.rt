@@ -12,7 +12,7 @@ ghost use Rattle.columns.specs.Walks.{Sound, Ends, Over, Walks};
 
 use content::is_content;
 use format::marks::Mark;
-use scan::integers::{Parsed, integer};
+use scan::integers::integer;
 
 // The farthest place of a value that a walk reaches: twice the longest message.
 pub const FARTHEST: usize = 2_097_152;
@@ -56,8 +56,7 @@ fn column(
     ensures bounds { result ≤ best }
 {
     let mut here = place;
-    let mut left = count;
-    while 0 < left {
+    for passed in 0..count {
         if best <= here {
             return best;
         }
@@ -65,7 +64,6 @@ fn column(
             return here;
         }
         here += stride;
-        left -= 1;
     }
     best
 }
@@ -161,11 +159,18 @@ pub fn leaf(
     if mark != Mark::TEXT {
         return off;
     }
-    match integer(message, at + 1) {
-        Parsed::Refused(_, _) => off,
-        Parsed::Number(n, next) => {
-            let wide = n as usize;
-            leaf_over(message, Mark::TEXT, wide, next, stride, count, place, best)
-        }
-    }
+    let Ok(length) = integer(message, at + 1) else {
+        return off;
+    };
+    let wide = length.number as usize;
+    leaf_over(
+        message,
+        Mark::TEXT,
+        wide,
+        length.next,
+        stride,
+        count,
+        place,
+        best,
+    )
 }

@@ -16,9 +16,8 @@ use Rattle.format.specs.Containers.{container_kind, container, counted}
 use Rattle.rows.specs.Row.{store}
 use Rattle.tokens.specs.Answers.{Laid}
 use Rattle.tokens.proofs.Laying.{laid_over}
-use Rattle.containers.specs.Lists.{closed, ListWithin}
-use Rattle.containers.specs.declared.lists.Listed.{Listed}
-use Rattle.containers.specs.declared.lists.Listed.TheVariants.{Fault, Next}
+use Rattle.tokens.specs.declared.Members.{Members}
+use Rattle.containers.specs.Lists.{closed, ListEnds}
 
 -- its token, where what it holds ends at `end` and has so many members
 abbrev pub holder : Opening → ℕ → ℕ → ℕ → ℕ → Token
@@ -38,14 +37,9 @@ laid_closed opening at start shut o row count end row' ancestry before mid now l
     let r = laid_over (holder opening at start end count) o row count end row' (end + shut) ancestry before mid now l e in
     rw (l.read, l.counted) (rw (one_member opening at start end count l.forest) at r)
 
-pub closed-fault : (opening : Opening) (at start shut : ℕ) (o : Parsed Forest) (n p : ℕ) → o ≡ fault n p → closed opening at start shut o ≡ fault n p
-unfolding closed ◌>>=◌
-closed-fault opening at start shut o n p e = rw e
-
 -- there is a row for each byte at most, so rows up to the limit are rows enough
-pub list_cap : (l : Listed) (low high lent : ℕ) → high ≤ limit → ListWithin l low high lent → ListWithin l low limit limit
-list_cap (Fault n p) low high lent h w = tt
-list_cap (Next end row count) low high lent h w = omega arith
+pub list_cap : (l : Members) (low high lent : ℕ) → high ≤ limit → ListEnds low high lent l → ListEnds low limit limit l
+list_cap l low high lent h w = omega arith
 
 -- ---- a counted container
 

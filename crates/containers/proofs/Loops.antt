@@ -48,9 +48,12 @@ module _ (n : ℕ) (item : Reader) (start first : ℕ) (ancestry : Ancestry) (be
     pub some_fault : (x y : ℕ) → count < n → item at row ≡ fault x y → repeat n item start first ≡ fault x y
     some_fault x y h e = sofar_fault s.sofar x y (turn count at row h ∙ seq_fault item _ at row x y e)
 
-    pub some_end : n ≤ count → Laid (repeat n item start first) first count ancestry before now at row
+    pub some_end : n ≤ count → Laid (repeat n item start first) first n ancestry before now at row
     unfolding repeat
-    some_end h = let e : n - count ≡ 0 = let k = s.most in omega arith in sofar_end s.sofar at (rw e)
+    some_end h =
+        let k = s.most in
+        let e : n - count ≡ 0 = omega arith in
+        let f : count ≡ n = omega arith in rw f at (sofar_end s.sofar at (rw e))
 
 -- ---- up to a closing mark
 

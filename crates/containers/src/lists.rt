@@ -8,23 +8,17 @@ ghost use Rattle.format.specs.Answers.{kind_of};
 ghost use Rattle.format.specs.Containers.{container_kind};
 ghost use Rattle.format.specs.Rows.{held_by};
 ghost use Rattle.rows.specs.Row.{ancestry_of};
-ghost use Rattle.tokens.specs.Answers.{Meets, Within};
-ghost use Rattle.containers.specs.Lists.{ListMeets, ListWithin, closed};
+ghost use Rattle.tokens.specs.Answers.{Laid, Ends};
+ghost use Rattle.containers.specs.Lists.{ListLaid, ListEnds, closed};
 
 use format::answers::Kind;
 use format::marks::opening_mark;
 use rows::Ancestry;
-use tokens::Step;
 use tokens::entry::{Entry, put};
-
-// A refusal's number and place; or the place after members, the row after theirs, and how many there are.
-#[derive(Clone, Copy)]
-pub enum Listed {
-    Fault(u32, usize),
-    Next(usize, usize, usize),
-}
+use tokens::{End, Members};
 
 // The kind of a container.
+#[tactic(auto, unfolding(format::specs::Containers::container_kind))]
 pub fn container_kind(brace: bool) -> Kind
     ensures { kind_of result ≡ container_kind (opening_of brace) }
 {
@@ -42,36 +36,30 @@ pub fn close(
     row: usize,
     start: usize,
     shut: usize,
-    list: Listed,
+    list: Members,
     ancestry: Ancestry,
-) -> Step
-    requires { (row ≤ at) × (at < start) × (shut ≤ 1) × ListWithin list start limit limit }
-    ensures meets { (o : Parsed Forest) (before : List ℕ) → ListMeets list o (row + 1) (held_by row (ancestry_of ancestry)) before rows.old → Meets result (closed (opening_of brace) at start shut o) row 1 (ancestry_of ancestry) before rows.new }
-    ensures bounds { (high lent : ℕ) → ListWithin list start (high - shut) lent → shut ≤ high → Within result start high lent }
+) -> End
+    requires { (row ≤ at) × (at < start) × (shut ≤ 1) × ListEnds start limit limit list }
+    ensures meets { (o : Parsed Forest) (before : List ℕ) → ListLaid list o (row + 1) (held_by row (ancestry_of ancestry)) before rows.old → Laid (closed (opening_of brace) at start shut o) row 1 (ancestry_of ancestry) before rows.new result.at result.row }
+    ensures bounds { (high lent : ℕ) → ListEnds start (high - shut) lent list → shut ≤ high → Ends start high lent result.at result.row }
 {
-    match list {
-        Listed::Fault(n, p) => Step::Fault(n, p),
-        Listed::Next(end, next, count) => {
-            let extent = end - start;
-            let after = end + shut;
-            let kind = container_kind(brace);
-            let mark = opening_mark(brace);
-            put(
-                rows,
-                row,
-                Entry {
-                    kind: kind,
-                    mark: mark,
-                    first: at,
-                    payload: start,
-                    extent: extent,
-                    count: count,
-                    order: 0,
-                },
-                next,
-                ancestry,
-            );
-            Step::Next(after, next)
-        }
+    put(
+        rows,
+        row,
+        Entry {
+            kind: container_kind(brace),
+            mark: opening_mark(brace),
+            first: at,
+            payload: start,
+            extent: list.at - start,
+            count: list.count,
+            order: 0,
+        },
+        list.row,
+        ancestry,
+    );
+    End {
+        at: list.at + shut,
+        row: list.row,
     }
 }

@@ -8,11 +8,12 @@ ghost use Rattle.rows.specs.Row.{ancestry_of};
 ghost use Rattle.tokens.specs.Answers.{Meets, Here, Within};
 ghost use Rattle.containers.specs.Lists.{ListMeets, ListWithin, pair_of};
 
-use crate::lists::{Listed, close};
+use crate::lists::close;
+use format::refusals::Refused;
 use rows::{Ancestry, held_by};
-use scan::integers::{Parsed, integer};
-use tokens::Step;
+use scan::integers::integer;
 use tokens::scalars::{key, unmarked};
+use tokens::{End, Members};
 
 // A key, and a value without mark.
 fn pair(
@@ -23,15 +24,13 @@ fn pair(
     at: usize,
     row: usize,
     ancestry: Ancestry,
-) -> Step
+) -> Result<End, Refused>
     requires { Here message.now lent at row × (0 < width mark) }
     ensures meets { Meets result (pair_of message.now lent mark at row) row 1 (ancestry_of ancestry) rows.old rows.new }
     ensures bounds { Within result (at + 1) (length message.now) lent }
 {
-    match key(message, rows, lent, at, row, ancestry) {
-        Step::Fault(n, p) => Step::Fault(n, p),
-        Step::Next(next, below) => unmarked(message, rows, lent, mark, next, below, ancestry),
-    }
+    let end = key(message, rows, lent, at, row, ancestry)?;
+    unmarked(message, rows, lent, mark, end.at, end.row, ancestry)
 }
 
 // n of them, from `start` and `first` on.
@@ -44,27 +43,23 @@ fn pairs(
     start: usize,
     first: usize,
     ancestry: Ancestry,
-) -> Listed
+) -> Result<Members, Refused>
     requires { Here message.now lent start first × (n ≤ limit) × (0 < width mark) }
     ensures meets { ListMeets result (repeat n (pair_of message.now lent mark) start first) first (ancestry_of ancestry) rows.old rows.new }
     ensures bounds { ListWithin result start (length message.now) lent }
 {
-    let mut at = start;
-    let mut row = first;
-    let mut count = 0;
-    while count < n {
-        match pair(message, rows, lent, mark, at, row, ancestry) {
-            Step::Fault(number, place) => {
-                return Listed::Fault(number, place);
-            }
-            Step::Next(next, after) => {
-                at = next;
-                row = after;
-                count += 1;
-            }
-        }
+    let mut end = End {
+        at: start,
+        row: first,
+    };
+    for count in 0..n {
+        end = pair(message, rows, lent, mark, end.at, end.row, ancestry)?;
     }
-    Listed::Next(at, row, count)
+    Ok(Members {
+        at: end.at,
+        row: end.row,
+        count: n,
+    })
 }
 
 // The typed object at `at`, with its count at `from`.
@@ -77,20 +72,16 @@ pub fn typed_object(
     at: usize,
     row: usize,
     ancestry: Ancestry,
-) -> Step
+) -> Result<End, Refused>
     requires { Here message.now lent at row × (row < lent) × (at < from) × (from ≤ length message.now) × (0 < width mark) × (ancestry.depth ≤ at) }
     ensures meets { Meets result (counted message.now lent brace (pair_of message.now lent mark) from at row) row 1 (ancestry_of ancestry) rows.old rows.new }
     ensures bounds { Within result (at + 1) (length message.now) lent }
 {
     let below = row + 1;
     let children = held_by(row, ancestry);
-    match integer(message, from) {
-        Parsed::Refused(n, p) => Step::Fault(n, p),
-        Parsed::Number(n, start) => {
-            let list = pairs(
-                message, rows, lent, mark, n as usize, start, below, children,
-            );
-            close(rows, true, at, row, start, 0, list, ancestry)
-        }
-    }
+    let count = integer(message, from)?;
+    let n = count.number as usize;
+    let start = count.next;
+    let list = pairs(message, rows, lent, mark, n, start, below, children)?;
+    Ok(close(rows, true, at, row, start, 0, list, ancestry))
 }

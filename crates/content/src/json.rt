@@ -135,10 +135,8 @@ pub fn is_number(bytes: &[u8]) -> bool
     ensures { result ≡ is_number bytes.now }
 {
     let mut stage = Stage::Start;
-    let mut i = 0;
-    while i < bytes.len() {
-        stage = step(stage, bytes[i]);
-        i += 1;
+    for &b in bytes {
+        stage = step(stage, b);
     }
     ends(stage)
 }

@@ -18,10 +18,8 @@ pub fn are_chars(bytes: &[u8]) -> bool
     ensures { result ≡ all (λ b. leb b 127) bytes.now }
 {
     let mut chars = true;
-    let mut i = 0;
-    while i < bytes.len() {
-        chars = chars & (bytes[i] <= 127);
-        i += 1;
+    for &b in bytes {
+        chars = chars & (b <= 127);
     }
     chars
 }
@@ -39,12 +37,10 @@ fn is_boolean(b: u8) -> bool
 fn are_booleans(bytes: &[u8]) -> bool
     ensures { result ≡ all is_boolean bytes.now }
 {
-    let mut i = 0;
-    while i < bytes.len() {
-        if !is_boolean(bytes[i]) {
+    for &b in bytes {
+        if !is_boolean(b) {
             return false;
         }
-        i += 1;
     }
     true
 }

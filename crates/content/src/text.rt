@@ -30,14 +30,11 @@ pub fn is_text(bytes: &[u8]) -> bool
     let mut a = 0;
     let mut b = 0;
     let mut c = 0;
-    let mut i = 0;
-    while i < bytes.len() {
-        let x = bytes[i];
+    for &x in bytes {
         stand = stand & can_stand(a, b, c, x);
         a = b;
         b = c;
         c = x;
-        i += 1;
     }
     stand & !is_owed(a, b, c)
 }

@@ -1,9 +1,8 @@
--- What the check of a payload answers.
+-- What the check of a payload answers: the place of its first wrong slot, or none where it is right.
+use Rattle.std.specs.Prelude.{ℕ, Option, Some, None}
 use Rattle.format.specs.Outcome.{Outcome, fault, done}
 use Rattle.format.specs.Refusals.{wrong_content}
-use Rattle.contents.specs.declared.Checked.{Checked}
-use Rattle.contents.specs.declared.Checked.TheVariants.{Right, Wrong}
 
-abbrev pub checked_of : Checked → Outcome (Unit {0})
-checked_of Right = done tt
-checked_of (Wrong p) = fault wrong_content p
+abbrev pub checked_of : Option ℕ → Outcome (Unit {0})
+checked_of None = done tt
+checked_of (Some p) = fault wrong_content p

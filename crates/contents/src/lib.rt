@@ -6,10 +6,3 @@ pub mod layouts;
 pub mod packed;
 pub mod tables;
 pub mod walk;
-
-// The payload is right; or its first wrong slot begins here.
-#[derive(Clone, Copy)]
-pub enum Checked {
-    Right,
-    Wrong(usize),
-}

@@ -6,24 +6,21 @@ ghost use Rattle.format.specs.Storage.{elements};
 ghost use Rattle.format.specs.Content.{contents};
 ghost use Rattle.contents.specs.Answers.{checked_of};
 
-use crate::Checked;
 use format::marks::Mark;
 
-// n elements under one of the thirteen marks, from `start` on.
-pub fn packed_contents(message: &[u8], mark: u8, start: usize, n: usize) -> Checked
+// The first wrong place of n elements under one of the thirteen marks, from `start` on; none where all are right.
+pub fn packed_contents(message: &[u8], mark: u8, start: usize, n: usize) -> Option<usize>
     requires { (is_type mark ≡ true) × (start + n * width mark ≤ length message.now) }
     ensures { (row : ℕ) → checked_of result ≡ contents message.now start (elements row mark (below n)) }
 {
     if mark != Mark::CHAR {
-        return Checked::Right;
+        return None;
     }
-    let mut i = 0;
-    while i < n {
+    for i in 0..n {
         let place = start + i;
         if 127 < message[place] {
-            return Checked::Wrong(place);
+            return Some(place);
         }
-        i += 1;
     }
-    Checked::Right
+    None
 }

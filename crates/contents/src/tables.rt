@@ -8,14 +8,13 @@ ghost use Rattle.format.specs.Content.{contents};
 ghost use Rattle.contents.specs.Tables.{TableAt};
 ghost use Rattle.contents.specs.Answers.{checked_of};
 
-use crate::Checked;
 use crate::layouts::lowest;
 use format::limits::{LIMIT, RECORD_LIMIT};
 
 // The last place of a message.
 const MOST: usize = LIMIT as usize;
 
-// The content of a table's payload. `schema` is the place of the schema's first byte, `wide` a record's width.
+// The first wrong slot of a table's payload; none where all are right. `schema` is the place of the schema's first byte, `wide` a record's width.
 pub fn table_contents(
     message: &[u8],
     brace: bool,
@@ -23,18 +22,18 @@ pub fn table_contents(
     wide: usize,
     count: usize,
     start: usize,
-) -> Checked
+) -> Option<usize>
     ensures { (lent row next n : ℕ) (s : Forest) → TableAt message.now schema wide count start lent row next s → checked_of result ≡ contents message.now start (records (opening_of brace) n (below_first s) (below count)) }
 {
     if RECORD_LIMIT < wide {
-        return Checked::Right;
+        return None;
     }
     if MOST < start {
-        return Checked::Right;
+        return None;
     }
     let place = lowest(message, brace, schema, wide, count, start);
     if MOST < place {
-        return Checked::Right;
+        return None;
     }
-    Checked::Wrong(place)
+    Some(place)
 }

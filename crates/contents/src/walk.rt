@@ -12,7 +12,7 @@ use columns::{Walk, leaf};
 use format::limits::LIMIT;
 use format::marks::{Mark, closing_mark};
 use scan::bytes::{byte_at, stands};
-use scan::integers::{Parsed, number};
+use scan::integers::number;
 
 // Where a member's kind begins: after its key, in a schema.
 pub fn after_key(message: &[u8], brace: bool, at: usize) -> usize
@@ -26,16 +26,14 @@ pub fn after_key(message: &[u8], brace: bool, at: usize) -> usize
         return at;
     }
     let mark = Mark(message[at]);
-    match number(message, LIMIT, mark, at, at + 1) {
-        Parsed::Refused(_, _) => at,
-        Parsed::Number(n, start) => {
-            let size = n as usize;
-            if end - start < size {
-                return at;
-            }
-            start + size
-        }
+    let Ok(length) = number(message, LIMIT, mark, at, at + 1) else {
+        return at;
+    };
+    let size = length.number as usize;
+    if end - length.next < size {
+        return at;
     }
+    length.next + size
 }
 
 // A kind: a leaf, a schema or a fixed array.

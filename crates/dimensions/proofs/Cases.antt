@@ -5,46 +5,13 @@ use mathlib.Core.Bool.{true, false}
 use mathlib.Core.List.{List}
 use lib.ListN.{length, get_or}
 use borrow.Author.Tests.{lt-ltb, le-ltb}
-use Rattle.format.specs.Outcome.{fault, done, ◌>>=◌, ◌>>◌, guard}
-use Rattle.format.specs.Limits.{limit}
-use Rattle.format.specs.Refusals.{ends_too_early, not_allowed, no_row_left}
-use Rattle.format.specs.Marks.{is_integer, width}
-use Rattle.format.specs.Tokens as Tokens
-use Rattle.format.specs.Tokens.{Token, alone, plain_count}
+use Rattle.format.specs.Outcome.{fault, ◌>>=◌, ◌>>◌, guard}
+use Rattle.format.specs.Refusals.{ends_too_early, not_allowed}
+use Rattle.format.specs.Marks.{is_integer}
 use Rattle.format.specs.Bytes.{byte, one_of}
-use Rattle.format.specs.Integers.{number}
-use Rattle.format.specs.Sequences.{row_left}
 use Rattle.format.specs.Dimensions.{dimension, marked, bare}
 
--- the token of a dimension
-abbrev pub dimension_of : ℕ → ℕ → ℕ → ℕ → Token
-dimension_of mark start at n = record {
-  kind = Tokens.dimension;
-  mark = mark;
-  first = at;
-  payload = start;
-  extent = width mark;
-  count = n;
-  order = plain_count;
-}
-
 module _ (m : List ℕ) (lent : ℕ) where
-  -- ---- a dimension
-
-  module _ (mark start at row : ℕ) where
-    pub dimension_no_row : lent ≤ row → dimension m lent mark start at row ≡ fault no_row_left at
-    unfolding dimension row_left guard ◌>>◌
-    dimension_no_row h = rw (le-ltb _ _ h)
-
-    pub dimension_wrong : (x y : ℕ) → row < lent → number m limit mark at start ≡ fault x y → dimension m lent mark start at row ≡ fault x y
-    unfolding dimension row_left guard ◌>>◌ ◌>>=◌
-    dimension_wrong x y h e = rw (lt-ltb _ _ h, e)
-
-    pub dimension_there : (n next : ℕ) → row < lent → number m limit mark at start ≡ done (n, next)
-        → dimension m lent mark start at row ≡ done (alone (dimension_of mark start at n), next)
-    unfolding dimension row_left guard ◌>>◌ ◌>>=◌
-    dimension_there n next h e = rw (lt-ltb _ _ h, e)
-
   module _ (at row : ℕ) where
     pub marked_early : length m ≤ at → marked m lent at row ≡ fault ends_too_early (length m)
     unfolding marked one_of byte guard ◌>>◌ ◌>>=◌

@@ -17,8 +17,9 @@ use Rattle.rows.specs.Overlay.{lay}
 use Rattle.tokens.specs.Answers as Tokens
 use Rattle.tokens.specs.Answers.{onto}
 use Rattle.tokens.proofs.Sofar.{seq_read, Sofar, sofar_start, sofar_as, sofar_step, sofar_fault, sofar_end}
+use Rattle.std.specs.Prelude.{Result, Ok, Err}
+use Rattle.format.specs.declared.refusals.Refused.{Refused}
 use Rattle.dimensions.specs.declared.Dims.{Dims}
-use Rattle.dimensions.specs.declared.Dims.TheVariants.{Fault, Next}
 use Rattle.dimensions.specs.Answers.{capped, Laid, Within}
 
 -- ---- products
@@ -72,9 +73,9 @@ laid_one t row next ancestry before now h e =
     }
 
 -- what ends from a place on ends from every place before it on
-pub within_from : (r : Dims) (low low' high rows_lent : ℕ) → low' ≤ low → Within r low high rows_lent → Within r low' high rows_lent
-within_from (Fault n p) low low' high rows_lent h w = tt
-within_from (Next next row many) low low' high rows_lent h w = omega arith
+pub within_from : (r : Result Dims Refused) (low low' high rows_lent : ℕ) → low' ≤ low → Within r low high rows_lent → Within r low' high rows_lent
+within_from (Err r) low low' high rows_lent h w = tt
+within_from (Ok d) low low' high rows_lent h w = omega arith
 
 -- ---- a loop over dimensions
 
@@ -126,3 +127,9 @@ module _ {whole : Parsed Forest} {first : ℕ} {ancestry : Ancestry} {before : L
         times = sym (q ∙ ap capped (mul-one many) ∙ min-eq_left h);
         lie = l.lie;
       }
+
+-- the first is read
+pub going_first : (item rest : Reader) (at row next row' n : ℕ) (ancestry : Ancestry) (before after : List ℕ) → Laid (item at row) row ancestry before after next row' n → n ≤ limit + 1
+    → Going ((item ⨾ rest) at row) row ancestry before (rest next row') row' n after
+going_first item rest at row next row' n ancestry before after l h =
+    going_step (going_start _ row ancestry before) item rest at next row' n after refl l n (sym (ap capped (one-mul n) ∙ min-eq_left h))

@@ -1,17 +1,18 @@
 -- How the answers about dimensions stand to the outcomes of the definitions, and to the lent words.
-use Rattle.std.specs.Prelude.{ℕ, ◌+◌, ◌≤◌, ◌<◌, min, ◌≡◌, List}
-use Rattle.format.specs.Outcome.{Parsed, fault, done}
+use Rattle.std.specs.Prelude.{ℕ, ◌+◌, ◌≤◌, ◌<◌, min, ◌≡◌, List, Result, Ok, Err}
+use Rattle.format.specs.Outcome.{Parsed, done}
 use Rattle.format.specs.Limits.{limit}
 use Rattle.format.specs.Marks.{width}
 use Rattle.format.specs.Tokens.{Forest, size, counts}
 use Rattle.format.specs.Indexes.{product}
 use Rattle.format.specs.Rows.{Ancestry, rows}
+use Rattle.format.specs.Answers.{refused}
 use Rattle.format.specs.Sequences.{Reader}
 use Rattle.format.specs.Dimensions as Dimensions
 use Rattle.rows.specs.Overlay.{lay}
 use Rattle.tokens.specs.Answers.{Ends}
+use Rattle.format.specs.declared.refusals.Refused.{Refused}
 use Rattle.dimensions.specs.declared.Dims.{Dims}
-use Rattle.dimensions.specs.declared.Dims.TheVariants.{Fault, Next}
 use Rattle.dimensions.specs.declared.forms.Form.{Form}
 use Rattle.dimensions.specs.declared.forms.Form.TheVariants.{Marked, Bare}
 
@@ -30,14 +31,14 @@ pub record Laid (o : Parsed Forest) (row : ℕ) (ancestry : Ancestry) (before af
   pub lie : after ≡ lay before row (rows row ancestry forest)
 
 -- the answer to a reader of dimensions: its refusal, whatever the words then hold; or what was read
-abbrev pub Meets : Dims → Parsed Forest → ℕ → Ancestry → List ℕ → List ℕ → Type 0
-Meets (Fault n p) o row ancestry before after = o ≡ fault n p
-Meets (Next next row' many) o row ancestry before after = Laid o row ancestry before after next row' many
+abbrev pub Meets : Result Dims Refused → Parsed Forest → ℕ → Ancestry → List ℕ → List ℕ → Type 0
+Meets (Err r) o row ancestry before after = o ≡ refused r
+Meets (Ok d) o row ancestry before after = Laid o row ancestry before after d.at d.row d.many
 
 -- where they end, and how many elements they give
-abbrev pub Within : Dims → ℕ → ℕ → ℕ → Type 0
-Within (Fault n p) low high rows_lent = Unit {0}
-Within (Next next row many) low high rows_lent = Ends low high rows_lent next row × (many ≤ limit + 1)
+abbrev pub Within : Result Dims Refused → ℕ → ℕ → ℕ → Type 0
+Within (Err r) low high rows_lent = Unit {0}
+Within (Ok d) low high rows_lent = Ends low high rows_lent d.at d.row × (d.many ≤ limit + 1)
 
 -- ---- one of several dimensions: an integer record, or a bare integer under a mark
 

@@ -10,8 +10,9 @@ use crate::Dims;
 use format::answers::Kind;
 use format::limits::LIMIT;
 use format::marks::Mark;
+use format::refusals::{Refusal, Refused};
 use rows::Ancestry;
-use scan::integers::{Parsed, number};
+use scan::integers::number;
 use tokens::entry::{Entry, put};
 
 // How each of several dimensions stands: as an integer record, or bare under a mark.
@@ -31,37 +32,37 @@ fn dimension(
     at: usize,
     row: usize,
     ancestry: Ancestry,
-) -> Dims
+) -> Result<Dims, Refused>
     requires { Here message.now lent at row × (at ≤ start) × (row < start + width_of mark) }
     ensures meets { Meets result (dimension_at message.now lent mark start at row) row (ancestry_of ancestry) rows.old rows.new }
     ensures bounds { Within result start (length message.now) lent }
 {
     if lent <= row {
-        return Dims::Fault(8, at);
+        return Err(Refused(Refusal::NoRowLeft, at));
     }
     let width = Mark(mark).width();
-    match number(message, LIMIT, Mark(mark), at, start) {
-        Parsed::Refused(number, place) => Dims::Fault(number, place),
-        Parsed::Number(n, next) => {
-            let link = row + 1;
-            put(
-                rows,
-                row,
-                Entry {
-                    kind: Kind::Dimension,
-                    mark: mark,
-                    first: at,
-                    payload: start,
-                    extent: width,
-                    count: n as usize,
-                    order: 0,
-                },
-                link,
-                ancestry,
-            );
-            Dims::Next(next, link, n as usize)
-        }
-    }
+    let size = number(message, LIMIT, Mark(mark), at, start)?;
+    let n = size.number as usize;
+    put(
+        rows,
+        row,
+        Entry {
+            kind: Kind::Dimension,
+            mark,
+            first: at,
+            payload: start,
+            extent: width,
+            count: n,
+            order: 0,
+        },
+        row + 1,
+        ancestry,
+    );
+    Ok(Dims {
+        at: size.next,
+        row: row + 1,
+        many: n,
+    })
 }
 
 // An integer record.
@@ -72,18 +73,18 @@ pub fn marked(
     at: usize,
     row: usize,
     ancestry: Ancestry,
-) -> Dims
+) -> Result<Dims, Refused>
     requires { Here message.now lent at row }
     ensures meets { Meets result (marked_at message.now lent at row) row (ancestry_of ancestry) rows.old rows.new }
     ensures bounds { Within result (at + 1) (length message.now) lent }
 {
     let end = message.len();
     if end <= at {
-        return Dims::Fault(2, end);
+        return Err(Refused(Refusal::EndsTooEarly, end));
     }
     let mark = message[at];
     if !Mark(mark).is_integer() {
-        return Dims::Fault(3, at);
+        return Err(Refused(Refusal::NotAllowed, at));
     }
     dimension(message, rows, lent, mark, at + 1, at, row, ancestry)
 }
@@ -97,14 +98,14 @@ fn bare(
     at: usize,
     row: usize,
     ancestry: Ancestry,
-) -> Dims
+) -> Result<Dims, Refused>
     requires { Here message.now lent at row × (0 < width_of mark) }
     ensures meets { Meets result (bare_at message.now lent mark at row) row (ancestry_of ancestry) rows.old rows.new }
     ensures bounds { Within result at (length message.now) lent }
 {
     let end = message.len();
     if end <= at {
-        return Dims::Fault(2, end);
+        return Err(Refused(Refusal::EndsTooEarly, end));
     }
     dimension(message, rows, lent, mark, at, at, row, ancestry)
 }
@@ -118,7 +119,7 @@ pub fn item(
     at: usize,
     row: usize,
     ancestry: Ancestry,
-) -> Dims
+) -> Result<Dims, Refused>
     requires { Here message.now lent at row × Wide form }
     ensures meets { Meets result (item_of message.now lent form at row) row (ancestry_of ancestry) rows.old rows.new }
     ensures bounds { Within result at (length message.now) lent }

@@ -4,10 +4,11 @@
 pub mod forms;
 pub mod products;
 
-// A refusal's number and place; or the place after the dimensions that were read, the row after their rows, and their product,
-// which is one over the limit where it would be more.
+// Where dimensions that were read end: the place after them, the row after their rows, and their product, which is one over the limit
+// where it would be more.
 #[derive(Clone, Copy)]
-pub enum Dims {
-    Fault(u32, usize),
-    Next(usize, usize, usize),
+pub struct Dims {
+    pub at: usize,
+    pub row: usize,
+    pub many: usize,
 }

@@ -1,4 +1,4 @@
--- What is known of a scalar, a text or a key whose end the leaves give. They give 0 where they leave it to the reader.
+-- What is known of a scalar, a text or a key whose end the leaves give. They give none where they leave it to the reader.
 use Rattle.std.specs.Prelude.{ℕ, ◌+◌, ◌≤◌, ◌<◌, ◌≡◌, true, List, length, get_or}
 use Rattle.format.specs.Outcome.{done}
 use Rattle.format.specs.Limits.{limit}

@@ -1,5 +1,5 @@
-// Where a short text or a short key ends, and a member's value in an object; 0 where a few bytes don't tell, which is left to the reader.
-ghost use Rattle.std.specs.Prelude.{◌≡◌, ◌+◌, ◌≤◌, ◌<◌, length, leb};
+// Where a short text or a short key ends, and a member's value in an object; none where a few bytes don't tell, which is left to the reader.
+ghost use Rattle.std.specs.Prelude.{◌≡◌, ◌+◌, ◌≤◌, ◌<◌, length, leb, IfSome};
 ghost use Rattle.format.specs.Conditions.{all};
 ghost use Rattle.format.specs.Limits.{limit};
 ghost use Rattle.format.specs.Bytes.{bytes as bytes_of};
@@ -13,12 +13,10 @@ use format::marks::Mark;
 fn are_chars_singly(bytes: &[u8]) -> bool
     ensures { result ≡ all (λ b. leb b 127) bytes.now }
 {
-    let mut i = 0;
-    while i < bytes.len() {
-        if 127 < bytes[i] {
+    for &b in bytes {
+        if 127 < b {
             return false;
         }
-        i += 1;
     }
     true
 }
@@ -41,64 +39,63 @@ fn are_chars_from(message: &[u8], start: usize, n: usize) -> bool
 }
 
 // A text whose length stands under `U`, all below 128.
-pub fn text_end(message: &[u8], at: usize) -> usize
+pub fn text_end(message: &[u8], at: usize) -> Option<usize>
     requires { (at ≤ length message.now) × (length message.now ≤ limit) }
-    ensures { 0 < result → TextEnds message.now at result }
+    ensures { IfSome result (TextEnds message.now at) }
 {
     let left = message.len() - at;
     if left < 3 {
-        return 0;
+        return None;
     }
     if message[at] != Mark::TEXT {
-        return 0;
+        return None;
     }
     if message[at + 1] != Mark::UINT8 {
-        return 0;
+        return None;
     }
     let n = message[at + 2] as usize;
     if left - 3 < n {
-        return 0;
+        return None;
     }
     let start = at + 3;
     let next = start + n;
     if are_chars_from(message, start, n) {
-        return next;
+        return Some(next);
     }
-    0
+    None
 }
 
 // A key whose length stands under `U`, all below 128.
-pub fn key_end(message: &[u8], at: usize) -> usize
+pub fn key_end(message: &[u8], at: usize) -> Option<usize>
     requires { (at ≤ length message.now) × (length message.now ≤ limit) }
-    ensures { 0 < result → KeyEnds message.now at result }
+    ensures { IfSome result (KeyEnds message.now at) }
 {
     let left = message.len() - at;
     if left < 2 {
-        return 0;
+        return None;
     }
     if message[at] != Mark::UINT8 {
-        return 0;
+        return None;
     }
     let n = message[at + 1] as usize;
     if left - 2 < n {
-        return 0;
+        return None;
     }
     let start = at + 2;
     let next = start + n;
     if are_chars_singly(&message[start..next]) {
-        return next;
+        return Some(next);
     }
-    0
+    None
 }
 
 // A member's value in an object: a scalar, or a text.
-pub fn value_end(message: &[u8], at: usize) -> usize
+pub fn value_end(message: &[u8], at: usize) -> Option<usize>
     requires { (at ≤ length message.now) × (length message.now ≤ limit) }
-    ensures { 0 < result → ValueEnds message.now at result }
+    ensures { IfSome result (ValueEnds message.now at) }
 {
-    let end = scalar_value_end(message, at);
-    if 0 < end {
-        return end;
+    if let Some(end) = scalar_value_end(message, at) {
+        return Some(end);
     }
     text_end(message, at)
 }

@@ -10,20 +10,23 @@ ghost use Rattle.extensions.specs.Heads.{HeadMeets, HeadWithin};
 use format::answers::Kind;
 use format::limits::ID_LIMIT;
 use format::marks::Mark;
+use format::refusals::{Refusal, Refused};
 use rows::Ancestry;
-use scan::integers::{Parsed, integer, integer_to};
-use tokens::Step;
+use scan::integers::{integer, integer_to};
+use tokens::End;
 use tokens::entry::{Entry, put};
-use tokens::scalars::{Place, payload_end};
+use tokens::scalars::payload_end;
 
-// An extension's id, and its payload's length and first byte; or a refusal's number and place.
+// What stands before an extension's payload: its id, and its payload's length and first byte.
 #[derive(Clone, Copy)]
-enum Head {
-    Of(u32, u32, usize),
-    Refused(u32, usize),
+struct Head {
+    id: u32,
+    size: u32,
+    start: usize,
 }
 
 // The size that an id asks for; the one given, where the id is opaque.
+#[tactic(auto, unfolding(format::specs::Extensions::size_of))]
 fn size_of(id: u32, given: u32) -> u32
     ensures { result ≡ size_of id given }
 {
@@ -44,23 +47,21 @@ fn size_of(id: u32, given: u32) -> u32
 
 // What stands before the payload of the extension at `at`: its id, whose limit is its own, and its length, which must be the size that the
 // id asks for.
-fn head_at(message: &[u8], at: usize) -> Head
+fn head_at(message: &[u8], at: usize) -> Result<Head, Refused>
     requires { at < length message.now }
     ensures meets { HeadMeets result message.now at }
     ensures bounds { HeadWithin result (at + 1) (length message.now) }
 {
-    match integer_to(message, ID_LIMIT, at + 1) {
-        Parsed::Refused(number, place) => Head::Refused(number, place),
-        Parsed::Number(id, from) => match integer(message, from) {
-            Parsed::Refused(number, place) => Head::Refused(number, place),
-            Parsed::Number(n, start) => {
-                if n != size_of(id, n) {
-                    return Head::Refused(4, at);
-                }
-                Head::Of(id, n, start)
-            }
-        },
+    let id = integer_to(message, ID_LIMIT, at + 1)?;
+    let size = integer(message, id.next)?;
+    if size.number != size_of(id.number, size.number) {
+        return Err(Refused(Refusal::WrongContent, at));
     }
+    Ok(Head {
+        id: id.number,
+        size: size.number,
+        start: size.next,
+    })
 }
 
 // The extension at `at`.
@@ -71,41 +72,35 @@ pub fn extension(
     at: usize,
     row: usize,
     ancestry: Ancestry,
-) -> Step
+) -> Result<End, Refused>
     requires { Here message.now lent at row × (at < length message.now) }
     ensures meets { Meets result (extension_at message.now lent at row) row 1 (ancestry_of ancestry) rows.old rows.new }
     ensures bounds { Within result (at + 1) (length message.now) lent }
 {
     if lent <= row {
-        return Step::Fault(8, at);
+        return Err(Refused(Refusal::NoRowLeft, at));
     }
-    match head_at(message, at) {
-        Head::Refused(number, place) => Step::Fault(number, place),
-        Head::Of(id, n, start) => {
-            let size = n as usize;
-            match payload_end(message, Mark::EXTENSION, start, size) {
-                Place::Refused(number, place) => Step::Fault(number, place),
-                Place::At(next) => {
-                    let link = row + 1;
-                    let count = id as usize;
-                    put(
-                        rows,
-                        row,
-                        Entry {
-                            kind: Kind::Extension,
-                            mark: Mark::EXTENSION,
-                            first: at,
-                            payload: start,
-                            extent: size,
-                            count: count,
-                            order: 0,
-                        },
-                        link,
-                        ancestry,
-                    );
-                    Step::Next(next, link)
-                }
-            }
-        }
-    }
+    let head = head_at(message, at)?;
+    let size = head.size as usize;
+    let next = payload_end(message, Mark::EXTENSION, head.start, size)?;
+    let link = row + 1;
+    put(
+        rows,
+        row,
+        Entry {
+            kind: Kind::Extension,
+            mark: Mark::EXTENSION,
+            first: at,
+            payload: head.start,
+            extent: size,
+            count: head.id as usize,
+            order: 0,
+        },
+        link,
+        ancestry,
+    );
+    Ok(End {
+        at: next,
+        row: link,
+    })
 }

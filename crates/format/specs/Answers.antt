@@ -9,10 +9,9 @@ use Rattle.format.specs.Tokens as Tokens
 use Rattle.format.specs.Tokens.{kind_number}
 use Rattle.format.specs.Addresses.{Region}
 use Rattle.format.specs.Values as Values
-use Rattle.format.specs.declared.answers.Answer.{Answer}
-use Rattle.format.specs.declared.answers.Answer.TheVariants.{Done, Refused}
 use Rattle.format.specs.declared.refusals.Refusal.{Refusal}
 use Rattle.format.specs.declared.refusals.Refusal.TheVariants.{MessageTooLong, EndsTooEarly, NotAllowed, WrongContent, OverLimit, WrongInteger, TooDeep, NoRowLeft, BytesAfter, NotThere, OutputTooLong, RowsDontFit, NotBuilt}
+use Rattle.format.specs.declared.refusals.Refused.{Refused}
 use Rattle.format.specs.declared.answers.Span.{Span}
 use Rattle.format.specs.declared.answers.Edition.{Edition}
 use Rattle.format.specs.declared.answers.Edition.TheVariants.{Old, New}
@@ -39,10 +38,14 @@ refusal_number OutputTooLong = output_too_long
 refusal_number RowsDontFit = rows_dont_fit
 refusal_number NotBuilt = not_built
 
+-- a refusal with its place
+abbrev pub refused : {A : Type 0} → Refused → Outcome A
+refused r = fault (refusal_number r.0) r.1
+
 -- the reader's: the rows used, or number and place; the rewriter's: the bytes written, or number and place
-abbrev pub answered : Answer → Outcome ℕ
-answered (Done n) = done n
-answered (Refused n p) = fault n p
+abbrev pub answered : Result ℕ Refused → Outcome ℕ
+answered (Ok n) = done n
+answered (Err r) = refused r
 
 -- an address's or a text's: first byte and width, or the number
 abbrev pub located : Result Span Refusal → Outcome (ℕ × ℕ)

@@ -3,13 +3,6 @@ ghost use Rattle.std.specs.Prelude.{◌≡◌};
 ghost use Rattle.format.specs.Tokens.{kind_number};
 ghost use Rattle.format.specs.Answers.{kind_of, KindNumbered};
 
-// The reader's and the rewriter's answer: rows used or bytes written; or a refusal's number and place.
-#[derive(Clone, Copy)]
-pub enum Answer {
-    Done(usize),
-    Refused(u32, usize),
-}
-
 // Where a slot or a text stands: its first byte and its width.
 #[derive(Clone, Copy, PartialEq, Eq)]
 pub struct Span {

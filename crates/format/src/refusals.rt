@@ -40,21 +40,8 @@ impl Refusal {
             Refusal::NotBuilt => 13,
         }
     }
-
-    // A refusal with its place in the message.
-    pub fn at(self, place: usize) -> Refused
-        ensures { result ≡ record { refusal = self; place = place } }
-    {
-        Refused {
-            refusal: self,
-            place,
-        }
-    }
 }
 
-// A refusal and its place.
+// A refusal and its place in the message.
 #[derive(Clone, Copy, PartialEq, Eq)]
-pub struct Refused {
-    pub refusal: Refusal,
-    pub place: usize,
-}
+pub struct Refused(pub Refusal, pub usize);

@@ -1,5 +1,5 @@
 -- What follows of the items' answers. Assumes nothing.
-use Prim.Native.Nat.{ℕ, ◌+◌, ◌≤◌}
+use Prim.Native.Nat.{ℕ, ◌≤◌}
 use mathlib.Core.Path.{◌≡◌, refl, sym, ap, ◌∙◌}
 use mathlib.Core.Bool.{Bool, true, false, true≢false, false≢true}
 use mathlib.Core.List.{List}
@@ -16,31 +16,30 @@ use Rattle.format.specs.Containers.{items}
 use Rattle.format.specs.Read.{value_by}
 use Rattle.format.proofs.Forests.{size_append, members_append}
 use Rattle.rows.specs.Overlay.{lay}
-use Rattle.tokens.specs.Answers.{onto, Laid, Meets, Within}
-use Rattle.tokens.specs.declared.Step.{Step}
-use Rattle.tokens.specs.declared.Step.TheVariants.{Fault as Stopped, Next as Went}
+use Rattle.tokens.specs.Answers.{onto, Laid, Meets}
+use Rattle.std.specs.Prelude.{Result, Ok, Err, IsOkAnd, MatchResult}
+use Rattle.format.specs.declared.refusals.Refused.{Refused}
+use Rattle.tokens.specs.declared.End.{End}
 use Rattle.tokens.proofs.Sofar.{lay_forest, seq_read, seq_fault, onto-none, onto-onto, onto-fault, laid_after, laid_onto}
-use Rattle.items.specs.Items.{item_of, Opened, ItemMeets, ItemWithin}
+use Rattle.items.specs.Items.{Opened, ItemMeets, ItemWithin}
 use Rattle.items.specs.declared.starts.Item.{Item}
-use Rattle.items.specs.declared.starts.Item.TheVariants.{Fault, Next, Opens}
+use Rattle.items.specs.declared.starts.Item.TheVariants.{Whole, Opens}
 
 -- a value that is read whole, whatever reads a container
-pub whole_meets : (s : Step) (o : (Opening → Reader) → Parsed Forest) (p : Parsed Forest) (row : ℕ) (ancestry : Ancestry) (before after : List ℕ)
-    → ((nested : Opening → Reader) → o nested ≡ p) → Meets s p row 1 ancestry before after → ItemMeets (item_of s) o row ancestry before after
-whole_meets (Stopped n q) o p row ancestry before after e h = λ nested. e nested ∙ h
-whole_meets (Went next row') o p row ancestry before after e h = λ nested. rw (e nested) h
-
-pub whole_within : (s : Step) (low high rows_lent : ℕ) → Within s (low + 1) high rows_lent → ItemWithin (item_of s) low high rows_lent
-whole_within (Stopped n q) low high rows_lent w = tt
-whole_within (Went next row) low high rows_lent w = w
+pub whole_meets : (s : Result End Refused) (i : Result Item Refused) (o : (Opening → Reader) → Parsed Forest) (p : Parsed Forest) (row : ℕ) (ancestry : Ancestry) (before after : List ℕ)
+    → MatchResult s (λ w. IsOkAnd i (λ x. x ≡ Whole w)) (λ r. i ≡ Err r) → ((nested : Opening → Reader) → o nested ≡ p) → Meets s p row 1 ancestry before after
+    → ItemMeets i o row ancestry before after
+whole_meets (Err r) i o p row ancestry before after m e h = rw m (λ nested. e nested ∙ h)
+whole_meets (Ok w) (Ok x) o p row ancestry before after m e h = rw m (λ nested. rw (e nested) h)
+whole_meets (Ok w) (Err r) o p row ancestry before after m e h = absurd m
 
 -- a member whose key is read goes on with its value
-pub keyed_meets : (r : Item) (o value : (Opening → Reader) → Parsed Forest) (a : Parsed Forest) (row next row' : ℕ) (ancestry : Ancestry) (before mid after : List ℕ)
+pub keyed_meets : (r : Result Item Refused) (o value : (Opening → Reader) → Parsed Forest) (a : Parsed Forest) (row next row' : ℕ) (ancestry : Ancestry) (before mid after : List ℕ)
     (l : Laid a row 0 ancestry before mid next row') → ((nested : Opening → Reader) → o nested ≡ onto l.forest (value nested))
     → ItemMeets r value row' ancestry mid after → ItemMeets r o row ancestry before after
-keyed_meets (Fault n p) o value a row next row' ancestry before mid after l e h = λ nested. e nested ∙ onto-fault l.forest (value nested) n p (h nested)
-keyed_meets (Next end row'') o value a row next row' ancestry before mid after l e h = λ nested. rw (e nested) (laid_onto l (h nested))
-keyed_meets (Opens b at row'') o value a row next row' ancestry before mid after l e h =
+keyed_meets (Err r) o value a row next row' ancestry before mid after l e h = λ nested. e nested ∙ onto-fault l.forest (value nested) _ _ (h nested)
+keyed_meets (Ok (Whole w)) o value a row next row' ancestry before mid after l e h = λ nested. rw (e nested) (laid_onto l (h nested))
+keyed_meets (Ok (Opens b at row'')) o value a row next row' ancestry before mid after l e h =
     let f = l.forest in
     let g = h.forest in
     record {
@@ -51,10 +50,10 @@ keyed_meets (Opens b at row'') o value a row next row' ancestry before mid after
       lie = h.lie ∙ rw (l.lie, l.took) (lay_forest before row ancestry f g);
     }
 
-pub within_item : (r : Item) (low low' high rows_lent : ℕ) → low' ≤ low → ItemWithin r low high rows_lent → ItemWithin r low' high rows_lent
-within_item (Fault n p) low low' high rows_lent h w = tt
-within_item (Next next row) low low' high rows_lent h w = omega arith
-within_item (Opens b at row) low low' high rows_lent h w = omega arith
+pub within_item : (r : Result Item Refused) (low low' high rows_lent : ℕ) → low' ≤ low → ItemWithin r low high rows_lent → ItemWithin r low' high rows_lent
+within_item (Err r) low low' high rows_lent h w = tt
+within_item (Ok (Whole e)) low low' high rows_lent h w = omega arith
+within_item (Ok (Opens b at row)) low low' high rows_lent h w = omega arith
 
 -- a container that opens right here
 pub opened_here : (o : (Opening → Reader) → Parsed Forest) (row : ℕ) (ancestry : Ancestry) (words : List ℕ) (opening : Opening) (at : ℕ)
@@ -69,7 +68,7 @@ module _ (m : List ℕ) (lent : ℕ) (grammar : Grammar) (at row : ℕ) where
   abbrev pub member : Bool → (Opening → Reader) → Parsed Forest
   member b nested = items m lent (opening_of b) (value_by m lent grammar nested) at row
 
-  pub member_plain : (b : Bool) → b ≡ false → (r : Item) (ancestry : Ancestry) (before after : List ℕ)
+  pub member_plain : (b : Bool) → b ≡ false → (r : Result Item Refused) (ancestry : Ancestry) (before after : List ℕ)
       → ItemMeets r (λ nested. value_by m lent grammar nested at row) row ancestry before after → ItemMeets r (member b) row ancestry before after
   unfolding items
   member_plain true e r ancestry before after h = absurd (true≢false e)
@@ -80,7 +79,7 @@ module _ (m : List ℕ) (lent : ℕ) (grammar : Grammar) (at row : ℕ) where
   member-key-fault true e n p h nested = seq_fault _ _ at row n p h
   member-key-fault false e n p h nested = absurd (false≢true e)
 
-  pub member_keyed : (b : Bool) → b ≡ true → (r : Item) (next row' : ℕ) (ancestry : Ancestry) (before mid after : List ℕ) → Laid (key m lent at row) row 0 ancestry before mid next row'
+  pub member_keyed : (b : Bool) → b ≡ true → (r : Result Item Refused) (next row' : ℕ) (ancestry : Ancestry) (before mid after : List ℕ) → Laid (key m lent at row) row 0 ancestry before mid next row'
       → ItemMeets r (λ nested. value_by m lent grammar nested (skip m next) row') row' ancestry mid after → ItemMeets r (member b) row ancestry before after
   unfolding items spaced
   member_keyed true e r next row' ancestry before mid after l h =
@@ -89,9 +88,9 @@ module _ (m : List ℕ) (lent : ℕ) (grammar : Grammar) (at row : ℕ) where
   member_keyed false e r next row' ancestry before mid after l h = absurd (false≢true e)
 
 -- what reads the container that opens, reads the member
-pub opened_meets : (s : Step) (o : (Opening → Reader) → Parsed Forest) (row : ℕ) (ancestry : Ancestry) (before mid after : List ℕ) (opening : Opening) (at row' : ℕ)
+pub opened_meets : (s : Result End Refused) (o : (Opening → Reader) → Parsed Forest) (row : ℕ) (ancestry : Ancestry) (before mid after : List ℕ) (opening : Opening) (at row' : ℕ)
     → Opened o row ancestry before mid opening at row' → (nested : Opening → Reader) → Meets s (nested opening at row') row' 1 ancestry mid after
     → Meets s (o nested) row 1 ancestry before after
-opened_meets (Stopped n p) o row ancestry before mid after opening at row' h nested e = h.is nested ∙ onto-fault h.forest _ n p e
-opened_meets (Went next row'') o row ancestry before mid after opening at row' h nested l =
+opened_meets (Err r) o row ancestry before mid after opening at row' h nested e = h.is nested ∙ onto-fault h.forest _ _ _ e
+opened_meets (Ok w) o row ancestry before mid after opening at row' h nested l =
     rw (h.is nested) (laid_after h.forest h.counted h.took h.lie l)

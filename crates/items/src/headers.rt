@@ -5,45 +5,52 @@ ghost use Rattle.format.specs.Marks.{opening_of, opens, left_brace};
 ghost use Rattle.items.specs.Headers.{HeaderMeets, HeaderWithin, OpensPlain};
 
 use format::marks::Mark;
-use scan::integers::{Parsed, integer};
+use format::refusals::{Refusal, Refused};
+use scan::integers::integer;
 
-// What follows an opening mark: a refusal; `$`; `#` and a count, and where the first member may begin; or neither.
+// What follows an opening mark: `$`; `#` and a count, and where the first member may begin; or neither.
 #[derive(Clone, Copy)]
 pub enum Header {
-    Fault(u32, usize),
     Typed,
-    Counted(usize, usize),
+    Counted { count: usize, start: usize },
     Plain,
 }
 
 // The opening mark at `at`: depth, row, and what follows it.
-pub fn header_at(message: &[u8], lent: usize, levels: usize, at: usize, row: usize) -> Header
+pub fn header_at(
+    message: &[u8],
+    lent: usize,
+    levels: usize,
+    at: usize,
+    row: usize,
+) -> Result<Header, Refused>
     requires { (length message.now ≤ limit) × (at < length message.now) }
     ensures meets { HeaderMeets result message.now lent levels at row }
     ensures bounds { HeaderWithin result (at + 2) (length message.now) lent levels at row }
 {
     if levels == 0 {
-        return Header::Fault(7, at);
+        return Err(Refused(Refusal::TooDeep, at));
     }
     if lent <= row {
-        return Header::Fault(8, at);
+        return Err(Refused(Refusal::NoRowLeft, at));
     }
     let end = message.len();
     let next = at + 1;
     if end <= next {
-        return Header::Fault(2, end);
+        return Err(Refused(Refusal::EndsTooEarly, end));
     }
     let b = message[next];
     if b == Mark::TYPE {
-        return Header::Typed;
+        return Ok(Header::Typed);
     }
     if b != Mark::COUNT {
-        return Header::Plain;
+        return Ok(Header::Plain);
     }
-    match integer(message, at + 2) {
-        Parsed::Refused(n, p) => Header::Fault(n, p),
-        Parsed::Number(n, start) => Header::Counted(n as usize, start),
-    }
+    let count = integer(message, at + 2)?;
+    Ok(Header::Counted {
+        count: count.number as usize,
+        start: count.next,
+    })
 }
 
 // True at opening marks only. That it is true at all of them is for speed, and not promised; so with the next two.

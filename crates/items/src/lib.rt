@@ -2,5 +2,4 @@
 #![tactic(auto)]
 
 pub mod headers;
-pub mod lists;
 pub mod starts;

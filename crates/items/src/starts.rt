@@ -6,14 +6,15 @@ ghost use Rattle.format.specs.Read.{value_by};
 ghost use Rattle.format.specs.Containers.{items};
 ghost use Rattle.rows.specs.Row.{ancestry_of};
 ghost use Rattle.tokens.specs.Answers.{Here};
-ghost use Rattle.items.specs.Items.{class_of, class, item_of, ItemMeets, ItemWithin};
+ghost use Rattle.items.specs.Items.{class_of, class, ItemMeets, ItemWithin};
 
 use extensions::extension;
 use format::answers::{Edition, Kind};
 use format::marks::Mark;
+use format::refusals::{Refusal, Refused};
 use rows::Ancestry;
 use scan::noops::skip;
-use tokens::Step;
+use tokens::End;
 use tokens::scalars::{key, scalar, text};
 
 // What a mark begins.
@@ -28,15 +29,14 @@ pub enum Class {
     Other,
 }
 
-// A refusal's number and place; or the place after a value that is read, and the row after its rows; or a container that opens with
-// a bracket or a brace, where, and its row.
+// A value that is read whole; or a container that opens with a bracket or a brace, where, and its row.
 #[derive(Clone, Copy)]
 pub enum Item {
-    Fault(u32, usize),
-    Next(usize, usize),
-    Opens(bool, usize, usize),
+    Whole(End),
+    Opens { brace: bool, at: usize, row: usize },
 }
 
+// What a mark begins, by the edition.
 fn class_of(edition: Edition, mark: u8) -> Class
     ensures { class_of result ≡ class (grammar_of edition) mark }
 {
@@ -56,16 +56,6 @@ fn class_of(edition: Edition, mark: u8) -> Class
     }
 }
 
-// A value that is read whole.
-fn whole(s: Step) -> Item
-    ensures { result ≡ item_of s }
-{
-    match s {
-        Step::Fault(n, p) => Item::Fault(n, p),
-        Step::Next(next, row) => Item::Next(next, row),
-    }
-}
-
 // The value at `at`, or the container that it opens.
 pub fn value_start(
     edition: Edition,
@@ -75,30 +65,35 @@ pub fn value_start(
     at: usize,
     row: usize,
     ancestry: Ancestry,
-) -> Item
+) -> Result<Item, Refused>
     requires { Here message.now lent at row }
     ensures meets { ItemMeets result (λ nested. value_by message.now lent (grammar_of edition) nested at row) row (ancestry_of ancestry) rows.old rows.new }
     ensures bounds { ItemWithin result at (length message.now) lent }
 {
     let end = message.len();
     if end <= at {
-        return Item::Fault(2, end);
+        return Err(Refused(Refusal::EndsTooEarly, end));
     }
     let mark = message[at];
     match class_of(edition, mark) {
-        Class::Scalar => whole(scalar(message, rows, lent, mark, at + 1, at, row, ancestry)),
-        Class::Text => whole(text(
-            message,
-            rows,
-            lent,
-            Kind::Text,
-            Mark::TEXT,
-            at,
-            row,
-            ancestry,
-        )),
+        Class::Scalar => {
+            scalar(message, rows, lent, mark, at + 1, at, row, ancestry).map(Item::Whole)
+        }
+        Class::Text => {
+            text(
+                message,
+                rows,
+                lent,
+                Kind::Text,
+                Mark::TEXT,
+                at,
+                row,
+                ancestry,
+            )
+            .map(Item::Whole)
+        }
         Class::HighPrecision => {
-            whole(text(
+            text(
                 message,
                 rows,
                 lent,
@@ -107,12 +102,21 @@ pub fn value_start(
                 at,
                 row,
                 ancestry,
-            ))
+            )
+            .map(Item::Whole)
         }
-        Class::Bracket => Item::Opens(false, at, row),
-        Class::Brace => Item::Opens(true, at, row),
-        Class::Extension => whole(extension(message, rows, lent, at, row, ancestry)),
-        Class::Other => Item::Fault(3, at),
+        Class::Bracket => Ok(Item::Opens {
+            brace: false,
+            at,
+            row,
+        }),
+        Class::Brace => Ok(Item::Opens {
+            brace: true,
+            at,
+            row,
+        }),
+        Class::Extension => extension(message, rows, lent, at, row, ancestry).map(Item::Whole),
+        Class::Other => Err(Refused(Refusal::NotAllowed, at)),
     }
 }
 
@@ -126,7 +130,7 @@ pub fn member_start(
     at: usize,
     row: usize,
     ancestry: Ancestry,
-) -> Item
+) -> Result<Item, Refused>
     requires { Here message.now lent at row }
     ensures meets { ItemMeets result (λ nested. items message.now lent (opening_of brace) (value_by message.now lent (grammar_of edition) nested) at row) row (ancestry_of ancestry) rows.old rows.new }
     ensures bounds { ItemWithin result at (length message.now) lent }
@@ -134,11 +138,7 @@ pub fn member_start(
     if !brace {
         return value_start(edition, message, rows, lent, at, row, ancestry);
     }
-    match key(message, rows, lent, at, row, ancestry) {
-        Step::Fault(n, p) => Item::Fault(n, p),
-        Step::Next(next, below) => {
-            let here = skip(message, next);
-            value_start(edition, message, rows, lent, here, below, ancestry)
-        }
-    }
+    let end = key(message, rows, lent, at, row, ancestry)?;
+    let here = skip(message, end.at);
+    value_start(edition, message, rows, lent, here, end.row, ancestry)
 }

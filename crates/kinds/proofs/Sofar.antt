@@ -15,11 +15,12 @@ use Rattle.format.proofs.Forests.{size_append, members_append, width_append}
 use Rattle.rows.specs.Overlay.{lay}
 use Rattle.tokens.specs.Answers.{onto, Laid}
 use Rattle.tokens.proofs.Sofar.{onto-none, onto-onto, seq_read}
-use Rattle.kinds.specs.Answers.{over, kind_at, field_at, Read, Meets, Sofar, StartMeets, Within, StartWithin}
+use Rattle.kinds.specs.Answers.{over, kind_at, field_at, Read, Meets, Sofar, StartMeets, StartWithin}
+use Rattle.std.specs.Prelude.{Result, Ok, Err}
+use Rattle.format.specs.declared.refusals.Refused.{Refused}
 use Rattle.kinds.specs.declared.Kinds.{Kinds}
-use Rattle.kinds.specs.declared.Kinds.TheVariants.{Fault, Next}
 use Rattle.kinds.specs.declared.starts.Start.{Start}
-use Rattle.kinds.specs.declared.starts.Start.TheVariants.{Ended, Array, Record}
+use Rattle.kinds.specs.declared.starts.Start.TheVariants.{Whole, Opens}
 use Rattle.kinds.proofs.Placing.{lay-placed, keys_width, keys_placed}
 
 -- nothing is read yet
@@ -81,11 +82,11 @@ module _ {whole : Parsed Forest} {first offset : ℕ} {ancestry : Ancestry} {bef
   sofar_fault n p e = s.is ∙ rw e
 
 -- what remains is one kind, after keys alone
-pub sofar_meets : (k : Kinds) (after : List ℕ) {whole remains : Parsed Forest} {first offset row : ℕ} {ancestry : Ancestry} {before now : List ℕ}
+pub sofar_meets : (k : Result Kinds Refused) (after : List ℕ) {whole remains : Parsed Forest} {first offset row : ℕ} {ancestry : Ancestry} {before now : List ℕ}
     → Sofar whole first offset ancestry before remains row 0 offset now → Meets k remains row offset ancestry now after → Meets k whole first offset ancestry before after
 unfolding onto ◌>>=◌
-sofar_meets (Fault n p) after s e = sofar_fault s n p e
-sofar_meets (Next next row' offset') after s l =
+sofar_meets (Err r) after s e = sofar_fault s _ _ e
+sofar_meets (Ok k) after s l =
     let f = s.forest in
     let g = l.forest in
     record {
@@ -94,7 +95,7 @@ sofar_meets (Next next row' offset') after s l =
       counted = members_append f g ∙ omega (arith, s.counted, l.counted);
       took = omega (arith, s.took, l.took, size_append f g);
       wide = omega (arith, s.wide, l.wide, width_append f g);
-      lie = grown s g offset' after l.wide l.lie;
+      lie = grown s g k.offset after l.wide l.lie;
     }
 
 -- keys, and more keys
@@ -114,23 +115,19 @@ sofar_keys {remains = remains} {offset = offset} {after = after} s t =
     }
 
 -- where a kind begins after its key
-pub start_key : (r : Start) (m : List ℕ) (rows_lent levels at row offset next row' : ℕ) (ancestry : Ancestry) (before mid after : List ℕ) → offset ≤ over
+pub start_key : (r : Result Start Refused) (m : List ℕ) (rows_lent levels at row offset next row' : ℕ) (ancestry : Ancestry) (before mid after : List ℕ) → offset ≤ over
     → Laid (key m rows_lent at row) row 0 ancestry before mid next row'
     → StartMeets r m rows_lent levels (kind_at m rows_lent levels next row') row' offset ancestry mid after
     → StartMeets r m rows_lent levels (field_at m rows_lent levels at row) row offset ancestry before after
-start_key (Ended k) m rows_lent levels at row offset next row' ancestry before mid after h l s =
-    sofar_meets k after (sofar_key (key m rows_lent) (kind_at m rows_lent levels) at row offset next row' ancestry before mid h l) s
-start_key (Array a r) m rows_lent levels at row offset next row' ancestry before mid after h l s =
-    sofar_keys (sofar_key (key m rows_lent) (kind_at m rows_lent levels) at row offset next row' ancestry before mid h l) s
-start_key (Record a r) m rows_lent levels at row offset next row' ancestry before mid after h l s =
+start_key (Err r) m rows_lent levels at row offset next row' ancestry before mid after h l s =
+    sofar_fault (sofar_key (key m rows_lent) (kind_at m rows_lent levels) at row offset next row' ancestry before mid h l) _ _ s
+start_key (Ok (Whole k)) m rows_lent levels at row offset next row' ancestry before mid after h l s =
+    sofar_meets (Ok k) after (sofar_key (key m rows_lent) (kind_at m rows_lent levels) at row offset next row' ancestry before mid h l) s
+start_key (Ok (Opens b a r)) m rows_lent levels at row offset next row' ancestry before mid after h l s =
     sofar_keys (sofar_key (key m rows_lent) (kind_at m rows_lent levels) at row offset next row' ancestry before mid h l) s
 
 -- what ends or opens from a place on does so from every place before it on
-pub within_from : (k : Kinds) (low low' high rows_lent offset : ℕ) → low' ≤ low → Within k low high rows_lent offset → Within k low' high rows_lent offset
-within_from (Fault n p) low low' high rows_lent offset h w = tt
-within_from (Next next row offset') low low' high rows_lent offset h w = omega arith
-
-pub start_from : (r : Start) (low low' high rows_lent levels offset : ℕ) → low' ≤ low → StartWithin r low high rows_lent levels offset → StartWithin r low' high rows_lent levels offset
-start_from (Ended k) low low' high rows_lent levels offset h w = within_from k (low + 1) (low' + 1) high rows_lent offset (omega arith) w
-start_from (Array a r) low low' high rows_lent levels offset h w = omega arith
-start_from (Record a r) low low' high rows_lent levels offset h w = omega arith
+pub start_from : (r : Result Start Refused) (low low' high rows_lent levels offset : ℕ) → low' ≤ low → StartWithin r low high rows_lent levels offset → StartWithin r low' high rows_lent levels offset
+start_from (Err r) low low' high rows_lent levels offset h w = tt
+start_from (Ok (Whole k)) low low' high rows_lent levels offset h w = omega arith
+start_from (Ok (Opens b a r)) low low' high rows_lent levels offset h w = omega arith

@@ -1,5 +1,5 @@
 // The leaves of a schema.
-ghost use Rattle.std.specs.Prelude.{◌≡◌, ℕ, ◌+◌, ◌≤◌, ◌<◌, min, length};
+ghost use Rattle.std.specs.Prelude.{◌≡◌, ℕ, ◌+◌, ◌≤◌, ◌<◌, min, length, Ok};
 ghost use Rattle.format.specs.Outcome.{done};
 ghost use Rattle.format.specs.Limits.{limit};
 ghost use Rattle.format.specs.Schemas.{leaf as leaf_of, plain_leaf, text_leaf};
@@ -11,9 +11,10 @@ use crate::Kinds;
 use format::answers::Kind;
 use format::limits::RECORD_LIMIT;
 use format::marks::Mark;
+use format::refusals::{Refusal, Refused};
 use rows::Ancestry;
-use scan::integers::{Parsed, integer};
-use tokens::entry::{Entry, put};
+use scan::integers::integer;
+use tokens::entry::put_alone;
 
 // One more than the bytes that a record may have.
 pub const OVER: usize = RECORD_LIMIT + 1;
@@ -23,11 +24,7 @@ fn offset_after(offset: usize, width: usize) -> usize
     requires { (offset ≤ over) × (width ≤ limit) }
     ensures { result ≡ min (offset + width) over }
 {
-    let end = offset + width;
-    if end < OVER {
-        return end;
-    }
-    OVER
+    (offset + width).min(OVER)
 }
 
 // A leaf of so many bytes, given the place after it: its row is stored.
@@ -42,27 +39,16 @@ fn leaf(
     ancestry: Ancestry,
 ) -> Kinds
     requires { (row ≤ at) × (at ≤ limit) × (offset ≤ over) × (width ≤ limit) }
-    ensures meets { Meets result (done (leaf_of mark at width, next)) row offset (ancestry_of ancestry) rows.old rows.new }
-    ensures bounds { (low high rows_lent : ℕ) → low ≤ next → next ≤ high → row < rows_lent → row < next → Within result low high rows_lent offset }
+    ensures meets { Meets (Ok result) (done (leaf_of mark at width, next)) row offset (ancestry_of ancestry) rows.old rows.new }
+    ensures bounds { (low high rows_lent : ℕ) → low ≤ next → next ≤ high → row < rows_lent → row < next → Within (Ok result) low high rows_lent offset }
 {
-    let link = row + 1;
     let end = offset_after(offset, width);
-    put(
-        rows,
-        row,
-        Entry {
-            kind: Kind::Leaf,
-            mark: mark,
-            first: at,
-            payload: offset,
-            extent: width,
-            count: 0,
-            order: 0,
-        },
-        link,
-        ancestry,
-    );
-    Kinds::Next(next, link, end)
+    put_alone(rows, row, Kind::Leaf, mark, at, offset, width, ancestry);
+    Kinds {
+        at: next,
+        row: row + 1,
+        offset: end,
+    }
 }
 
 // One of the thirteen marks, `T` or `Z`.
@@ -75,17 +61,16 @@ pub fn plain_leaf(
     row: usize,
     offset: usize,
     ancestry: Ancestry,
-) -> Kinds
+) -> Result<Kinds, Refused>
     requires { Here message.now lent at row × (at < length message.now) × (offset ≤ over) }
     ensures meets { Meets result (plain_leaf message.now lent mark at row) row offset (ancestry_of ancestry) rows.old rows.new }
     ensures bounds { Within result (at + 1) (length message.now) lent offset }
 {
     if lent <= row {
-        return Kinds::Fault(8, at);
+        return Err(Refused(Refusal::NoRowLeft, at));
     }
     let width = Mark(mark).leaf_width();
-    let next = at + 1;
-    leaf(rows, mark, at, row, offset, width, next, ancestry)
+    Ok(leaf(rows, mark, at, row, offset, width, at + 1, ancestry))
 }
 
 // `S` and an integer: so many bytes of text.
@@ -97,19 +82,24 @@ pub fn text_leaf(
     row: usize,
     offset: usize,
     ancestry: Ancestry,
-) -> Kinds
+) -> Result<Kinds, Refused>
     requires { Here message.now lent at row × (at < length message.now) × (offset ≤ over) }
     ensures meets { Meets result (text_leaf message.now lent at row) row offset (ancestry_of ancestry) rows.old rows.new }
     ensures bounds { Within result (at + 1) (length message.now) lent offset }
 {
     if lent <= row {
-        return Kinds::Fault(8, at);
+        return Err(Refused(Refusal::NoRowLeft, at));
     }
-    match integer(message, at + 1) {
-        Parsed::Refused(number, place) => Kinds::Fault(number, place),
-        Parsed::Number(n, next) => {
-            let width = n as usize;
-            leaf(rows, Mark::TEXT, at, row, offset, width, next, ancestry)
-        }
-    }
+    let length = integer(message, at + 1)?;
+    let width = length.number as usize;
+    Ok(leaf(
+        rows,
+        Mark::TEXT,
+        at,
+        row,
+        offset,
+        width,
+        length.next,
+        ancestry,
+    ))
 }

@@ -4,10 +4,11 @@
 pub mod leaves;
 pub mod starts;
 
-// A refusal's number and place; or the place after a kind, the row after its rows, and the offset in the record after it. Offsets
-// are told apart up to a record's limit: 65,537 stands for all beyond.
+// Where a kind ends: the place after it, the row after its rows, and the offset in the record after it. Offsets are told apart up to a
+// record's limit: 65,537 stands for all beyond.
 #[derive(Clone, Copy)]
-pub enum Kinds {
-    Fault(u32, usize),
-    Next(usize, usize, usize),
+pub struct Kinds {
+    pub at: usize,
+    pub row: usize,
+    pub offset: usize,
 }

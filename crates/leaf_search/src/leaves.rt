@@ -8,7 +8,7 @@ ghost use Rattle.leaf_search.specs.Walks.{Near, Begins, Ends, PassedLeaf, Walks}
 
 use format::limits::RECORD_LIMIT;
 use format::marks::Mark;
-use scan::integers::{Parsed, integer};
+use scan::integers::integer;
 
 // So many leaves are to be passed before it; or its offset in the record and its width.
 #[derive(Clone, Copy)]
@@ -92,11 +92,8 @@ pub fn leaf(message: &[u8], at: usize, offset: usize, seen: Seen) -> Walk
     if mark != Mark::TEXT {
         return off;
     }
-    match integer(message, at + 1) {
-        Parsed::Refused(_, _) => off,
-        Parsed::Number(n, next) => {
-            let wide = n as usize;
-            leaf_over(wide, next, offset, seen)
-        }
-    }
+    let Ok(length) = integer(message, at + 1) else {
+        return off;
+    };
+    leaf_over(length.number as usize, length.next, offset, seen)
 }

@@ -4,7 +4,7 @@ use mathlib.Core.Path.{◌≡◌, refl, sym, subst, ◌∙◌}
 use mathlib.Core.Bool.{Bool, true, false}
 use mathlib.Core.List.{List}
 use native.Mathlib.Omega.{arith}
-use lib.ListN.{length}
+use lib.ListN.{length, take, drop}
 use lib.Dec.{ltb}
 use borrow.Author.Tests.{le-leb, lt-leb, ltb-true, lt-ltb, le-ltb}
 use Rattle.format.specs.Conditions.{when◌then◌else◌, same}
@@ -14,7 +14,10 @@ use Rattle.format.specs.Rows.{Row, row_at, rows_in}
 use Rattle.format.specs.Bytes.{bytes, within}
 use Rattle.format.specs.Addresses.{is_key, along}
 use Rattle.format.specs.Lookup.{has_names, find, lookup}
+use Rattle.std.specs.Str.{bytes_eq}
+use Rattle.format.proofs.Parts.{part_is}
 use Rattle.ways.proofs.Along as Along
+use Rattle.lookup.proofs.Names.{same_bytes}
 use Rattle.lookup.specs.Keys.{member_of}
 
 -- ---- a key and its member
@@ -66,19 +69,6 @@ module _ (m ws : List ℕ) (stop key : ℕ) where
       go (done x) f true w e = last x f (ltb x stop) refl w e
       go (done x) f false w e = let z : ◌≡◌ {A = ℕ} 0 1 = cc in absurd (omega arith)
 
-  pub member_refused : (n : ℕ) → member_of m ws stop key ≡ fault n 0 → n ≡ rows_dont_fit
-  unfolding member_of tested guard ◌>>◌ ◌>>=◌
-  member_refused n e = go (along ws is_key stop key) refl (within (length m) (row_at ws key).payload (row_at ws key).extent) e
-    where
-      last : (x : ℕ) (b : Bool) → (guard b rows_dont_fit 0 >> done x) ≡ fault n 0 → n ≡ rows_dont_fit
-      last x true e = let z : ◌≡◌ {A = ℕ} 0 1 = cc in absurd (omega arith)
-      last x false e = cc
-
-      go : (o : Outcome ℕ) → along ws is_key stop key ≡ o → (a : Bool) → tested o a ≡ fault n 0 → n ≡ rows_dont_fit
-      go (fault k p) f a e = let q : fault k p ≡ fault n 0 = e in Along.refused ws is_key stop key n (f ∙ q)
-      go (done x) f true e = last x (ltb x stop) e
-      go (done x) f false e = cc
-
 -- ---- the members
 
 module _ (m ws name : List ℕ) where
@@ -86,9 +76,10 @@ module _ (m ws name : List ℕ) where
   pub named : ℕ → Bool
   named key = same (bytes m (row_at ws key).payload (row_at ws key).extent) name
 
-  pub names : (key : ℕ) (k : Row) → k ≡ row_at ws key → named key ≡ same (bytes m k.payload k.extent) name
+  -- as the code compares them
+  pub compared : (key : ℕ) (k : Row) → k ≡ row_at ws key → (r : Bool) → r ≡ bytes_eq (take (k.payload + k.extent - k.payload) (drop k.payload m)) name → r ≡ named key
   unfolding named
-  names key k e = rw (← e)
+  compared key k e r q = rw (← e) (q ∙ rw part_is (same_bytes (bytes m k.payload k.extent) name))
 
   -- after a key: its member, or those that come after the member
   after : ℕ → ℕ → Bool → ℕ → Outcome ℕ
@@ -142,9 +133,9 @@ module _ (m ws name : List ℕ) where
 
     module _ (key : ℕ) (w : Walk stop from key) (h : key < stop) where
       -- the key can't be followed
-      pub stuck : (n : ℕ) → fault n 0 ≡ member_of m ws stop key → fault rows_dont_fit 0 ≡ find m ws name (length ws) stop from
+      pub stuck : (n : ℕ) → fault n 0 ≡ member_of m ws stop key → fault n 0 ≡ find m ws name (length ws) stop from
       unfolding ◌>>=◌
-      stuck n e = rw (← member_refused m ws stop key n (sym e)) (rw (← e) at (turn key w h).2)
+      stuck n e = rw (← e) at (turn key w h).2
 
       module _ (member : ℕ) (e : done member ≡ member_of m ws stop key) where
         -- its bytes are the name's
@@ -154,9 +145,9 @@ module _ (m ws name : List ℕ) where
 
         module _ (s : named key ≡ false) where
           -- its member can't be passed
-          pub barred : (n : ℕ) → fault n 0 ≡ along ws (λ r. true) stop member → fault rows_dont_fit 0 ≡ find m ws name (length ws) stop from
+          pub barred : (n : ℕ) → fault n 0 ≡ along ws (λ r. true) stop member → fault n 0 ≡ find m ws name (length ws) stop from
           unfolding ◌>>=◌ after when◌then◌else◌
-          barred n f = rw (← Along.refused ws (λ r. true) stop member n (sym f)) (rw (← e, s, ← f) at (turn key w h).2)
+          barred n f = rw (← e, s, ← f) at (turn key w h).2
 
           -- the next key stands after this one
           pub higher : (next : ℕ) → done next ≡ along ws (λ r. true) stop member → key < next

@@ -7,73 +7,54 @@ ghost use Rattle.format.specs.Lookup.{find as find_in, lookup as lookup_in};
 ghost use Rattle.format.specs.Answers.{found};
 ghost use Rattle.lookup.specs.Keys.{member_of};
 
-use format::answers::Found;
+use format::refusals::Refusal;
 use rows::{count, load};
 use scan::bytes::within;
 use ways::links::along;
 use ways::needs::Need;
 
 // The row of the member that a key goes with. The key's bytes lie inside the message, and the member stands before `stop`.
-fn member(message: &[u8], rows: &[u32], stop: usize, key: usize) -> Found
+fn member(message: &[u8], rows: &[u32], stop: usize, key: usize) -> Result<usize, Refusal>
     requires { stop ≤ rows_in rows.now }
     ensures { found result ≡ member_of message.now rows.now stop key }
 {
-    match along(rows, Need::Key, stop, key) {
-        Found::Refused(number) => Found::Refused(number),
-        Found::Row(next) => {
-            let k = load(rows, key);
-            let first = k.payload as usize;
-            let wide = k.extent as usize;
-            if !within(message, first, wide) {
-                return Found::Refused(12);
-            }
-            if stop <= next {
-                return Found::Refused(12);
-            }
-            Found::Row(next)
-        }
+    let next = along(rows, Need::Key, stop, key)?;
+    let k = load(rows, key);
+    if !within(message, k.payload as usize, k.extent as usize) || stop <= next {
+        return Err(Refusal::RowsDontFit);
     }
+    Ok(next)
 }
 
 // The members from a key on, up to the container's link.
-fn find(message: &[u8], rows: &[u32], name: &[u8], stop: usize, from: usize) -> Found
+fn find(
+    message: &[u8],
+    rows: &[u32],
+    name: &[u8],
+    stop: usize,
+    from: usize,
+) -> Result<usize, Refusal>
     requires { stop ≤ rows_in rows.now }
     ensures { found result ≡ find_in message.now rows.now name.now (length rows.now) stop from }
 {
     let mut key = from;
-    let mut answer = Found::Refused(10);
-    'members: while key < stop {
-        let Found::Row(value) = member(message, rows, stop, key) else {
-            return Found::Refused(12);
-        };
+    while key < stop {
+        let value = member(message, rows, stop, key)?;
         let k = load(rows, key);
         let first = k.payload as usize;
-        let wide = k.extent as usize;
-        let mut i = 0;
-        'bytes: while wide == name.len() {
-            if i == wide {
-                answer = Found::Row(value);
-                break 'members;
-            }
-            if message[first + i] != name[i] {
-                break 'bytes;
-            }
-            i += 1;
+        let bytes = &message[first..first + k.extent as usize];
+        if bytes == name {
+            return Ok(value);
         }
-        let Found::Row(next) = along(rows, Need::Anything, stop, value) else {
-            return Found::Refused(12);
-        };
-        key = next;
+        key = along(rows, Need::Anything, stop, value)?;
     }
-    answer
+    Err(Refusal::NotThere)
 }
 
 // The row of the value or kind of the first member with these bytes for a name, in any words; or 10 or 12.
-pub fn lookup(message: &[u8], rows: &[u32], row: usize, name: &[u8]) -> Found
+pub fn lookup(message: &[u8], rows: &[u32], row: usize, name: &[u8]) -> Result<usize, Refusal>
     ensures { found result ≡ lookup_in message.now rows.now name.now row }
 {
-    match along(rows, Need::Named, count(rows), row) {
-        Found::Refused(number) => Found::Refused(number),
-        Found::Row(stop) => find(message, rows, name, stop, row + 1),
-    }
+    let stop = along(rows, Need::Named, count(rows), row)?;
+    find(message, rows, name, stop, row + 1)
 }

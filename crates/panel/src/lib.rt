@@ -6,9 +6,10 @@ ghost use Rattle.format.specs.Answers.{first_and_width};
 ghost use Rattle.format.specs.Panel.{number_and_place, rows_needed, panel_slot};
 ghost use Rattle.panel.specs.Layout.{parts_of, number_and_place_parts, rows_parts, slot_parts};
 
-use format::answers::{Answer, Edition, Located};
+use format::answers::{Edition, Span};
+use format::refusals::{Refusal, Refused};
 use records::slot::slot_in;
-use seek::{TableFound, table_at};
+use seek::table_at;
 
 // Number, place or first byte, and rows or width in one number.
 fn packed(number: u32, place: usize, amount: usize) -> u64
@@ -23,8 +24,8 @@ pub fn number_and_place(message: &[u8]) -> u64
     ensures { parts_of result ≡ number_and_place_parts (number_and_place message.now) }
 {
     match reader::message::rows_needed(Edition::New, message) {
-        Answer::Refused(n, p) => packed(n, p, 0),
-        Answer::Done(_) => packed(0, 0, 0),
+        Err(Refused(refusal, place)) => packed(refusal.number(), place, 0),
+        Ok(_) => packed(0, 0, 0),
     }
 }
 
@@ -33,8 +34,8 @@ pub fn rows_needed(message: &[u8]) -> u64
     ensures { parts_of result ≡ rows_parts (rows_needed message.now) }
 {
     match reader::message::rows_needed(Edition::New, message) {
-        Answer::Refused(number, place) => packed(number, place, 0),
-        Answer::Done(rows) => packed(0, 0, rows),
+        Err(Refused(refused, at)) => packed(refused.number(), at, 0),
+        Ok(rows) => packed(0, 0, rows),
     }
 }
 
@@ -42,19 +43,14 @@ pub fn rows_needed(message: &[u8]) -> u64
 pub fn slot(message: &[u8], table: usize, leaf: usize, number: usize) -> u64
     ensures { parts_of result ≡ slot_parts (first_and_width (panel_slot message.now table leaf number)) }
 {
-    match reader::message::rows_needed(Edition::New, message) {
-        Answer::Refused(refusal, _) => return packed(refusal, 0, 0),
-        Answer::Done(_) => {}
+    if let Err(Refused(refusal, _)) = reader::message::rows_needed(Edition::New, message) {
+        return packed(refusal.number(), 0, 0);
     }
-    match table_at(message, table) {
-        TableFound::Missing => packed(10, 0, 0),
-        TableFound::At {
-            first,
-            brace,
-            row: _,
-        } => match slot_in(message, brace, first, leaf, number) {
-            Located::Refused(refusal) => packed(refusal, 0, 0),
-            Located::At(start, wide) => packed(0, start, wide),
-        },
+    let Some(found) = table_at(message, table) else {
+        return packed(Refusal::NotThere.number(), 0, 0);
+    };
+    match slot_in(message, found.brace, found.first, leaf, number) {
+        Err(refusal) => packed(refusal.number(), 0, 0),
+        Ok(Span { first, width }) => packed(0, first, width),
     }
 }

@@ -23,13 +23,13 @@ use Rattle.format.proofs.MarkFacts.{among_passes}
 use Rattle.format.proofs.Noops.{skip_here}
 use Rattle.rows.specs.Row.{store}
 use Rattle.tokens.specs.Answers.{Laid, Here}
-use Rattle.tokens.specs.declared.Step.TheVariants.{Next}
 use Rattle.tokens.proofs.Cases.{after, scalar-row, text_there_lem, key_there}
 use Rattle.tokens.proofs.Laying.{laid_alone}
 use Rattle.tokens.proofs.Sofar.{seq_meets}
 use Rattle.ends.specs.Ends.{ScalarEnds, TextEnds, KeyEnds, ValueEnds, text_there, scalar_there}
-use Rattle.runs.specs.Runs.{Begins, PassedIn, RunEnds, value_start, value_token}
-use Rattle.runs.specs.declared.members.Run.{Run}
+use Rattle.runs.specs.Runs.{Begins, Stands, StandsAlone, PassedIn, RunEnds, value_start, value_token}
+use Rattle.std.specs.Prelude.{Ok}
+use Rattle.tokens.specs.declared.Members.{Members}
 use Rattle.runs.proofs.Passing.{passed_start, passed_one, passed_join}
 
 -- ---- a mark that is neither `N` nor a closing mark
@@ -81,15 +81,8 @@ module _ (mark at : ℕ) where
 -- ---- a value that is one token
 
 module _ (m : List ℕ) (at : ℕ) where
-  -- it stands at `at` and ends before `end`
-  pub record Stands (t : Token) (end : ℕ) : Type 0 where
-    pub starts : (opening : Opening) → Begins m (closes opening) at
-    pub on : at < end
-    pub one : members (alone t) ≡ 1
-    pub read : (lent row : ℕ) → row < lent → (grammar : Grammar) (nested : Opening → Reader) → value_by m lent grammar nested at row ≡ done (alone t, end)
-
   module _ (end : ℕ) where
-    pub scalar_stands : ScalarEnds m at end → Stands (uncounted Tokens.scalar (get_or m at 0) at (at + 1) (end - (at + 1))) end
+    pub scalar_stands : ScalarEnds m at end → Stands m at (uncounted Tokens.scalar (get_or m at 0) at (at + 1) (end - (at + 1))) end
     unfolding members is_kind value_by byte guard ◌>>◌ ◌>>=◌ when◌then◌else◌ after
     scalar_stands s =
         let there : at < length m = omega arith in
@@ -101,7 +94,7 @@ module _ (m : List ℕ) (at : ℕ) where
           read = λ lent row h grammar nested. rw (lt-ltb _ _ there, s.marked, n) (scalar-row m lent at row (get_or m at 0) (at + 1) h ∙ rw s.right);
         }
 
-    pub text_stands : TextEnds m at end → Stands (uncounted Tokens.text 'S' at (at + 3) (end - (at + 3))) end
+    pub text_stands : TextEnds m at end → Stands m at (uncounted Tokens.text 'S' at (at + 3) (end - (at + 3))) end
     unfolding members is_kind is_scalar types integers begins among value_by byte guard ◌>>◌ ◌>>=◌ when◌then◌else◌ after
     text_stands s =
         let there : at < length m = omega arith in
@@ -113,8 +106,15 @@ module _ (m : List ℕ) (at : ℕ) where
           read = λ lent row h grammar nested. rw (lt-ltb _ _ there, s.marked, n) (text_there_lem m lent at row Tokens.text 'S' _ _ h s.long ∙ rw s.right);
         }
 
+    -- as a loop is told of them
+    pub scalar_alone : ScalarEnds m at end → StandsAlone m Tokens.scalar 1 at end
+    scalar_alone s = record { stands = scalar_stands s; payload = omega arith; inside = s.inside }
+
+    pub text_alone : TextEnds m at end → StandsAlone m Tokens.text 3 at end
+    text_alone s = record { stands = rw s.marked (text_stands s); payload = omega arith; inside = s.inside }
+
     -- either, by its mark
-    pub value_stands : ValueEnds m at end → Stands (value_token (get_or m at 0) at end) end
+    pub value_stands : ValueEnds m at end → Stands m at (value_token (get_or m at 0) at end) end
     value_stands (text_there s) = rw (value_token_text _ at end s.marked) (text_stands s)
     value_stands (scalar_there s) = rw (value_token_scalar _ at end (scalar_no_text _ s.marked)) (scalar_stands s)
 
@@ -163,12 +163,12 @@ module _ (m : List ℕ) (lent : ℕ) (ancestry : Ancestry) where
   unfolding items spaced members is_kind when◌then◌else◌
   pair_passed at row value next t now mid after k s h d e grammar nested =
       passed_one m (closes brace) (key m lent ⨾ spaced m (value_by m lent grammar nested)) at row next (row + 1 + 1) ancestry now after (key_starts m at value k) (omega arith)
-      (seq_meets (Next next (row + 1 + 1)) (key m lent) (spaced m (value_by m lent grammar nested)) at row 0 value (row + 1) 1 ancestry now mid after
+      (seq_meets (Ok (record { at = next; row = row + 1 + 1 })) (key m lent) (spaced m (value_by m lent grammar nested)) at row 0 value (row + 1) 1 ancestry now mid after
       (rw (key_read m at value k lent row (omega arith)) (laid_alone _ row value ancestry now mid d))
       (rw (s.starts brace).here (laid_value value (row + 1) next t mid after s h e grammar nested)))
 
   -- some members, and then more
-  pub passed_more : (opening : Opening) (start first : ℕ) (before now after : List ℕ) (r q : Run) → PassedIn m lent opening start first ancestry before r now
+  pub passed_more : (opening : Opening) (start first : ℕ) (before now after : List ℕ) (r q : Members) → PassedIn m lent opening start first ancestry before r now
       → PassedIn m lent opening r.at r.row ancestry now q after → PassedIn m lent opening start first ancestry before (record { at = q.at; row = q.row; count = r.count + q.count }) after
   passed_more opening start first before now after r q p h grammar nested = passed_join m (closes opening) (items m lent opening (value_by m lent grammar nested)) (p grammar nested) (h grammar nested)
 

@@ -1,9 +1,10 @@
 -- Members that are read one after another, with no `N` between them.
 use Rattle.std.specs.Prelude.{ℕ, ◌+◌, ◌-◌, ◌≤◌, ◌<◌, ◌≡◌, List, length, get_or, eqb}
 use Rattle.format.specs.Grammars.{Grammar}
+use Rattle.format.specs.Outcome.{done}
 use Rattle.format.specs.Conditions.{when◌then◌else◌}
 use Rattle.format.specs.Marks.{Opening, closes, 'S'}
-use Rattle.format.specs.Tokens.{Token, text, scalar, uncounted, Forest, size, members}
+use Rattle.format.specs.Tokens.{Kind, Token, text, scalar, alone, uncounted, Forest, size, members}
 use Rattle.format.specs.Rows.{Ancestry, rows}
 use Rattle.format.specs.Bytes.{skip}
 use Rattle.format.specs.Sequences.{Reader, repeat, until, spaced}
@@ -11,7 +12,7 @@ use Rattle.format.specs.Containers.{items}
 use Rattle.format.specs.Read.{value_by}
 use Rattle.rows.specs.Overlay.{lay}
 use Rattle.tokens.specs.Answers.{onto}
-use Rattle.runs.specs.declared.members.Run.{Run}
+use Rattle.tokens.specs.declared.Members.{Members}
 
 -- the first payload byte of a text whose length stands under `U`, or of a scalar under this mark
 unfoldable pub value_start : ℕ → ℕ → ℕ
@@ -26,6 +27,19 @@ pub record Begins (m : List ℕ) (closing at : ℕ) : Type 0 where
   pub there : at < length m
   pub here : skip m at ≡ at
   pub more : get_or m at 0 ≡ closing → ⊥
+
+-- a value that is one token stands at `at` and ends before `end`, whatever reads a container
+pub record Stands (m : List ℕ) (at : ℕ) (t : Token) (end : ℕ) : Type 0 where
+  pub starts : (opening : Opening) → Begins m (closes opening) at
+  pub on : at < end
+  pub one : members (alone t) ≡ 1
+  pub read : (lent row : ℕ) → row < lent → (grammar : Grammar) (nested : Opening → Reader) → value_by m lent grammar nested at row ≡ done (alone t, end)
+
+-- one of this kind does, with its payload so many bytes after its first
+pub record StandsAlone (m : List ℕ) (kind : Kind) (ahead at end : ℕ) : Type 0 where
+  pub stands : Stands m at (uncounted kind (get_or m at 0) at (at + ahead) (end - (at + ahead))) end
+  pub payload : at + ahead ≤ end
+  pub inside : end ≤ length m
 
 -- what is read up to the closing mark is these, and then what is read from here
 pub record Goes (m : List ℕ) (closing : ℕ) (item : Reader) (start first : ℕ) (forest : Forest) (at row fuel : ℕ) : Type 0 where
@@ -45,12 +59,12 @@ pub record Passed (m : List ℕ) (closing : ℕ) (item : Reader) (start first : 
   pub goes : (fuel : ℕ) → length m ≤ start + fuel → Goes m closing item start first forest at row fuel
 
 -- the members of an array or object, whatever reads a container in them
-abbrev pub PassedIn : List ℕ → ℕ → Opening → ℕ → ℕ → Ancestry → List ℕ → Run → List ℕ → Type 0
+abbrev pub PassedIn : List ℕ → ℕ → Opening → ℕ → ℕ → Ancestry → List ℕ → Members → List ℕ → Type 0
 PassedIn m lent opening start first ancestry before r now =
     (grammar : Grammar) (nested : Opening → Reader) → Passed m (closes opening) (items m lent opening (value_by m lent grammar nested)) start first ancestry before r.at r.row r.count now
 
 -- where a run ends: so many members at most, each with a byte, and again a row for each byte before at most
-pub record RunEnds (most start high lent : ℕ) (r : Run) : Type 0 where
+pub record RunEnds (most start high lent : ℕ) (r : Members) : Type 0 where
   pub on : start + r.count ≤ r.at
   pub inside : r.at ≤ high
   pub row_lent : r.row ≤ lent
@@ -58,5 +72,5 @@ pub record RunEnds (most start high lent : ℕ) (r : Run) : Type 0 where
   pub few : r.count ≤ most
 
 -- what a loop answers: the members that it passed, and where it ends
-abbrev pub RunMeets : Run → List ℕ → ℕ → Opening → ℕ → ℕ → ℕ → Ancestry → List ℕ → List ℕ → Type 0
+abbrev pub RunMeets : Members → List ℕ → ℕ → Opening → ℕ → ℕ → ℕ → Ancestry → List ℕ → List ℕ → Type 0
 RunMeets r m lent opening most start first ancestry before now = PassedIn m lent opening start first ancestry before r now × RunEnds most start (length m) lent r

@@ -1,14 +1,14 @@
 // Members one after another: each loop reads one sort of them, and stops where another begins.
-ghost use Rattle.std.specs.Prelude.{◌≡◌, ◌+◌, ◌-◌, ◌≤◌};
+ghost use Rattle.std.specs.Prelude.{◌≡◌, ℕ, ◌+◌, ◌≤◌, length, Option, IfSome};
 ghost use Rattle.format.specs.Limits.{limit};
 ghost use Rattle.format.specs.Marks.{bracket, brace as brace_opening, opening_of};
-ghost use Rattle.format.specs.Tokens.{uncounted};
+ghost use Rattle.format.specs.Tokens.{scalar, text};
 ghost use Rattle.format.specs.Answers.{kind_of};
 ghost use Rattle.format.specs.Rows.{row_of};
 ghost use Rattle.rows.specs.Row.{ancestry_of, store as store_in};
 ghost use Rattle.tokens.specs.Answers.{Here};
-ghost use Rattle.ends.specs.Ends.{Sized};
-ghost use Rattle.runs.specs.Runs.{RunMeets, value_start, value_token};
+ghost use Rattle.ends.specs.Ends.{Sized, Sizes};
+ghost use Rattle.runs.specs.Runs.{StandsAlone, RunMeets, value_start, value_token};
 
 use ends::scalars::{alike_end, scalar_end};
 use ends::sizes::{LONGEST, size_of, sizes};
@@ -17,47 +17,57 @@ use format::answers::Kind;
 use format::marks::Mark;
 use rows::Ancestry;
 use scan::bytes::byte_at;
-use tokens::entry::{Entry, put};
+use tokens::Members;
+use tokens::entry::put_alone;
 
-// The place after the members read, the row after theirs, and how many they are.
-#[derive(Clone, Copy)]
-pub struct Run {
-    pub at: usize,
-    pub row: usize,
-    pub count: usize,
-}
-
-// The row of a token with nothing below it, whose payload goes from `start` to `next`.
-fn put_alone(
-    rows: &mut [u32],
-    row: usize,
+// Tokens that hold no others, one after another: each of this kind, with its payload so many bytes after its first. `end` says where one
+// ends; none where it is left to the reader.
+fn alone<F: Fn(usize) -> Option<usize>>(
+    end: F,
     kind: Kind,
-    mark: u8,
-    at: usize,
+    ahead: usize,
+    message: &[u8],
+    rows: &mut [u32],
+    lent: usize,
+    most: usize,
     start: usize,
-    next: usize,
+    first: usize,
     ancestry: Ancestry,
-)
-    requires { (row ≤ at) × (at ≤ start) × (start ≤ next) × (next ≤ limit) }
-    ensures { rows.new ≡ store_in rows.old row (row_of (uncounted (kind_of kind) mark at start (next - start)) (row + 1) (ancestry_of ancestry)) }
+) -> Members
+    requires here { Here message.now lent start first }
+    requires ahead { ahead ≤ 3 }
+    requires asked { (at : ℕ) → at ≤ length message.now → F.pre end at }
+    requires stands { (at : ℕ) (next : Option ℕ) → at ≤ length message.now → F.post end at next → IfSome next (StandsAlone message.now (kind_of kind) ahead at) }
+    ensures { RunMeets result message.now lent bracket most start first (ancestry_of ancestry) rows.old rows.new }
 {
-    let link = row + 1;
-    let extent = next - start;
-    put(
-        rows,
+    let mut at = start;
+    let mut row = first;
+    for count in 0..most {
+        if lent <= row {
+            return Members { at, row, count };
+        }
+        let Some(next) = end(at) else {
+            return Members { at, row, count };
+        };
+        let payload = at + ahead;
+        put_alone(
+            rows,
+            row,
+            kind,
+            message[at],
+            at,
+            payload,
+            next - payload,
+            ancestry,
+        );
+        at = next;
+        row += 1;
+    }
+    Members {
+        at,
         row,
-        Entry {
-            kind: kind,
-            mark: mark,
-            first: at,
-            payload: start,
-            extent: extent,
-            count: 0,
-            order: 0,
-        },
-        link,
-        ancestry,
-    );
+        count: most,
+    }
 }
 
 // Scalars of one mark, which goes with so many bytes.
@@ -71,37 +81,26 @@ fn alike(
     start: usize,
     first: usize,
     ancestry: Ancestry,
-) -> Run
+) -> Members
     requires { Here message.now lent start first × Sized mark n }
     ensures { RunMeets result message.now lent bracket most start first (ancestry_of ancestry) rows.old rows.new }
 {
-    let mut at = start;
-    let mut row = first;
-    let mut count = 0;
-    while count < most {
-        if lent <= row {
-            return Run { at, row, count };
-        }
-        let next = alike_end(message, mark, n, at);
-        if next == 0 {
-            return Run { at, row, count };
-        }
-        let payload = at + 1;
-        put_alone(
-            rows,
-            row,
-            Kind::Scalar,
-            message[at],
-            at,
-            payload,
-            next,
-            ancestry,
-        );
-        at = next;
-        row += 1;
-        count += 1;
-    }
-    Run { at, row, count }
+    let end = |at: usize| -> Option<usize>
+        requires { (at ≤ length message.now) × (length message.now ≤ limit) × Sized mark n }
+        ensures { IfSome result (StandsAlone message.entry.now scalar 1 at) }
+    { alike_end(message, mark, n, at) };
+    alone(
+        end,
+        Kind::Scalar,
+        1,
+        message,
+        rows,
+        lent,
+        most,
+        start,
+        first,
+        ancestry,
+    )
 }
 
 // Scalars.
@@ -113,45 +112,34 @@ fn scalars(
     start: usize,
     first: usize,
     ancestry: Ancestry,
-) -> Run
+) -> Members
     requires { Here message.now lent start first }
     ensures { RunMeets result message.now lent bracket most start first (ancestry_of ancestry) rows.old rows.new }
 {
     if !Mark(byte_at(message, start)).is_scalar() {
-        return Run {
+        return Members {
             at: start,
             row: first,
             count: 0,
         };
     }
     let sizes = sizes();
-    let mut at = start;
-    let mut row = first;
-    let mut count = 0;
-    while count < most {
-        if lent <= row {
-            return Run { at, row, count };
-        }
-        let next = scalar_end(message, &sizes, at);
-        if next == 0 {
-            return Run { at, row, count };
-        }
-        let payload = at + 1;
-        put_alone(
-            rows,
-            row,
-            Kind::Scalar,
-            message[at],
-            at,
-            payload,
-            next,
-            ancestry,
-        );
-        at = next;
-        row += 1;
-        count += 1;
-    }
-    Run { at, row, count }
+    let end = |at: usize| -> Option<usize>
+        requires { (at ≤ length message.now) × (length message.now ≤ limit) × Sizes sizes }
+        ensures { IfSome result (StandsAlone message.entry.now scalar 1 at) }
+    { scalar_end(message, &sizes, at) };
+    alone(
+        end,
+        Kind::Scalar,
+        1,
+        message,
+        rows,
+        lent,
+        most,
+        start,
+        first,
+        ancestry,
+    )
 }
 
 // Texts.
@@ -163,37 +151,26 @@ fn texts(
     start: usize,
     first: usize,
     ancestry: Ancestry,
-) -> Run
+) -> Members
     requires { Here message.now lent start first }
     ensures { RunMeets result message.now lent bracket most start first (ancestry_of ancestry) rows.old rows.new }
 {
-    let mut at = start;
-    let mut row = first;
-    let mut count = 0;
-    while count < most {
-        if lent <= row {
-            return Run { at, row, count };
-        }
-        let next = text_end(message, at);
-        if next == 0 {
-            return Run { at, row, count };
-        }
-        let payload = at + 3;
-        put_alone(
-            rows,
-            row,
-            Kind::Text,
-            Mark::TEXT,
-            at,
-            payload,
-            next,
-            ancestry,
-        );
-        at = next;
-        row += 1;
-        count += 1;
-    }
-    Run { at, row, count }
+    let end = |at: usize| -> Option<usize>
+        requires { (at ≤ length message.now) × (length message.now ≤ limit) }
+        ensures { IfSome result (StandsAlone message.entry.now text 3 at) }
+    { text_end(message, at) };
+    alone(
+        end,
+        Kind::Text,
+        3,
+        message,
+        rows,
+        lent,
+        most,
+        start,
+        first,
+        ancestry,
+    )
 }
 
 // The row of a text or a scalar that stands at `at`, under this mark, and ends before `next`.
@@ -210,12 +187,21 @@ fn put_value(rows: &mut [u32], row: usize, mark: u8, at: usize, next: usize, anc
             Mark::TEXT,
             at,
             letters,
-            next,
+            next - letters,
             ancestry,
         );
     } else {
         let payload = at + 1;
-        put_alone(rows, row, Kind::Scalar, mark, at, payload, next, ancestry);
+        put_alone(
+            rows,
+            row,
+            Kind::Scalar,
+            mark,
+            at,
+            payload,
+            next - payload,
+            ancestry,
+        );
     }
 }
 
@@ -228,26 +214,23 @@ fn pairs(
     start: usize,
     first: usize,
     ancestry: Ancestry,
-) -> Run
+) -> Members
     requires { Here message.now lent start first }
     ensures { RunMeets result message.now lent brace_opening most start first (ancestry_of ancestry) rows.old rows.new }
 {
     let mut at = start;
     let mut row = first;
-    let mut count = 0;
-    while count < most {
+    for count in 0..most {
         let below = row + 1;
         if lent <= below {
-            return Run { at, row, count };
+            return Members { at, row, count };
         }
-        let value = key_end(message, at);
-        if value == 0 {
-            return Run { at, row, count };
-        }
-        let next = value_end(message, value);
-        if next == 0 {
-            return Run { at, row, count };
-        }
+        let Some(value) = key_end(message, at) else {
+            return Members { at, row, count };
+        };
+        let Some(next) = value_end(message, value) else {
+            return Members { at, row, count };
+        };
         let letters = at + 2;
         put_alone(
             rows,
@@ -256,15 +239,18 @@ fn pairs(
             Mark::TEXT,
             at,
             letters,
-            value,
+            value - letters,
             ancestry,
         );
         put_value(rows, below, message[value], value, next, ancestry);
         at = next;
         row = below + 1;
-        count += 1;
     }
-    Run { at, row, count }
+    Members {
+        at,
+        row,
+        count: most,
+    }
 }
 
 // Members of an array.
@@ -276,7 +262,7 @@ fn values(
     start: usize,
     first: usize,
     ancestry: Ancestry,
-) -> Run
+) -> Members
     requires { Here message.now lent start first }
     ensures { RunMeets result message.now lent bracket most start first (ancestry_of ancestry) rows.old rows.new }
 {
@@ -292,7 +278,7 @@ fn values(
     let left = most - run.count;
     let more = scalars(message, rows, lent, left, run.at, run.row, ancestry);
     let count = run.count + more.count;
-    Run {
+    Members {
         at: more.at,
         row: more.row,
         count,
@@ -310,7 +296,7 @@ pub fn several(
     start: usize,
     first: usize,
     ancestry: Ancestry,
-) -> Run
+) -> Members
     requires { Here message.now lent start first }
     ensures { RunMeets result message.now lent (opening_of brace) most start first (ancestry_of ancestry) rows.old rows.new }
 {

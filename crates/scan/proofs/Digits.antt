@@ -5,7 +5,7 @@ use mathlib.Core.Bool.{Bool, true, false, and-false}
 use mathlib.Core.List.{List}
 use mathlib.Core.Logic.{◌↔◌}
 use native.Mathlib.Omega.{arith}
-use native.Mathlib.Nat.{pow-le-pow_right, lt_of_lt_of_le, add-zero, sub-zero, sub_self}
+use native.Mathlib.Nat.{pow-le-pow_right, lt_of_lt_of_le}
 use lib.ListN.{length, get_or}
 use lib.Dec.{leb}
 use borrow.Author.Tests.{leb-true, le-leb, lt-leb}
@@ -20,22 +20,23 @@ use Rattle.scan.specs.Numbers.{little_at}
 
 module _ (m : List ℕ) (at : ℕ) where
   -- nothing is read yet
-  pub none_read : (w : ℕ) → 0 ≡ little (bytes m (at + w) (w - w))
+  pub none_read : (w : ℕ) → 0 ≡ little (bytes m (at + (w - 0)) 0)
   unfolding little bytes
-  none_read w = rw (sub_self w)
+  none_read w = refl
 
   -- one byte further down
-  pub one_lower : (k w : ℕ) → 0 < k → k ≤ w → at + w ≤ length m
-      → little (bytes m (at + k) (w - k)) * 256 + get_or m (at + (k - 1)) 0 ≡ little (bytes m (at + (k - 1)) (w - (k - 1)))
-  one_lower k w h l e =
-      let p : w - (k - 1) ≡ suc (w - k) = omega arith in
-      let q : at + (k - 1) + 1 ≡ at + k = omega arith in
-      let i : at + (k - 1) < length m = omega arith in
-      rw (p, little_front m (at + (k - 1)) (w - k) i, q) (omega arith)
+  pub one_lower : (k w : ℕ) → k < w → at + w ≤ length m
+      → little (bytes m (at + (w - k)) k) * 256 + get_or m (at + (w - 1 - k)) 0 ≡ little (bytes m (at + (w - (k + 1))) (k + 1))
+  one_lower k w h e =
+      let p : k + 1 ≡ suc k = omega arith in
+      let q : at + (w - suc k) + 1 ≡ at + (w - k) = omega arith in
+      let r : at + (w - 1 - k) ≡ at + (w - (k + 1)) = omega arith in
+      let i : at + (w - suc k) < length m = omega arith in
+      rw (r, p, little_front m (at + (w - suc k)) k i, q) (omega arith)
 
   -- all are read
-  pub all_read : (k w : ℕ) → k ≤ 0 → little (bytes m (at + k) (w - k)) ≡ little (bytes m at w)
-  all_read k w h = let e : k ≡ 0 = omega arith in simp (e, add-zero, sub-zero)
+  pub all_read : (k w : ℕ) → k ≤ w → w ≤ k → little (bytes m (at + (w - k)) k) ≡ little (bytes m at w)
+  all_read k w h g = let e : k ≡ w = omega arith in let z : at + (w - w) ≡ at = omega arith in rw (e, z)
 
   -- up to eight bytes fit 64 bits
   pub fits_64 : (w : ℕ) → Small m → w ≤ 8 → little (bytes m at w) < 2 ^ 64

@@ -9,12 +9,11 @@ pub fn skip(message: &[u8], at: usize) -> usize
     ensures is { result ≡ skip_in message.now at }
     ensures bounds { (at ≤ result) × (result ≤ max at (length message.now)) }
 {
-    let mut i = at;
-    while i < message.len() {
+    let end = message.len();
+    for i in at..end {
         if message[i] != Mark::NOOP {
             return i;
         }
-        i += 1;
     }
-    i
+    at.max(end)
 }

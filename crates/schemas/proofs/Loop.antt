@@ -7,11 +7,12 @@ use native.Mathlib.Omega.{arith}
 use lib.ListN.{length}
 use lib.Dec.{ltb}
 use borrow.Author.Tests.{ltb-true, ltb-false, lt-ltb, eq-eqb, ne_eqb}
+use Rattle.std.specs.Prelude.{Ok}
 use Rattle.format.specs.Conditions.{when◌then◌else◌}
 use Rattle.format.specs.Outcome.{Parsed, fault, done, ◌>>=◌, ◌>>◌, guard}
 use Rattle.format.specs.Limits.{limit}
 use Rattle.format.specs.Refusals.{ends_too_early}
-use Rattle.format.specs.Marks.{Opening, opens, closes}
+use Rattle.format.specs.Marks.{Opening, opens, closes, opening_of}
 use Rattle.format.specs.Tokens.{Kind, key as kind_of_key, Forest, none, size, is_kind}
 use Rattle.format.specs.Records.{total_width}
 use Rattle.format.specs.Rows.{Ancestry, held_by, row_of}
@@ -25,12 +26,12 @@ use Rattle.scan.proofs.Stands.{stands_there, stands_other}
 use Rattle.laws.proofs.Bounds.{byte_starts}
 use Rattle.tokens.specs.Answers.{onto, Here}
 use Rattle.tokens.proofs.Sofar.{seq_fault}
-use Rattle.kinds.specs.Answers.{over, group_at, array_at, record_at, Read, Meets, Sofar, StartMeets, Ends, Within, StartWithin}
+use Rattle.kinds.specs.Answers.{over, group_at, group_from, Read, Sofar, StartMeets, Ends, StartWithin}
 use Rattle.kinds.specs.declared.Kinds.{Kinds}
 use Rattle.kinds.specs.declared.starts.Start.{Start}
-use Rattle.kinds.specs.declared.starts.Start.TheVariants.{Ended, Array, Record}
+use Rattle.kinds.specs.declared.starts.Start.TheVariants.{Whole, Opens}
 use Rattle.kinds.proofs.Placing.{group-size, group-members, group_width, group_lies}
-use Rattle.kinds.proofs.Sofar.{sofar_start, sofar_as, sofar_step, sofar_fault, sofar_meets, within_from}
+use Rattle.kinds.proofs.Sofar.{sofar_start, sofar_as, sofar_step, sofar_fault, sofar_meets}
 
 -- ---- up to a closing mark
 
@@ -146,24 +147,23 @@ module _ (m : List ℕ) (lent : ℕ) (kind : Kind) (o : Opening) (item : Reader)
 -- what a turn of the loop has of it
 pub record Member (m : List ℕ) (lent : ℕ) (item : Reader) (here next end : ℕ) (ancestry : Ancestry) (before after : List ℕ) (k : Kinds) : Type 0 where
   pub kept : length after ≡ length before
-  pub meets : Meets k (item here next) next end ancestry before after
-  pub bounds : Within k (here + 1) (length m) lent end
+  pub read : Read (item here next) next end ancestry before after k.at k.row k.offset
+  pub bounds : Ends (here + 1) (length m) lent end k.at k.row k.offset
 
--- it is read or refused at once; or its members remain
-pub member_ended : (m : List ℕ) (lent levels here next end : ℕ) (item : Reader) (ancestry : Ancestry) (before after : List ℕ) (k : Kinds) (r : Start) → r ≡ Ended k → length after ≡ length before
-    → StartMeets r m lent levels (item here next) next end ancestry before after → StartWithin r here (length m) lent levels end → Member m lent item here next end ancestry before after k
-member_ended m lent levels here next end item ancestry before after k r e l s w = record { kept = l; meets = rw e at s; bounds = rw e at w }
+-- it is read at once; or its members were read after it
+pub member_whole : (m : List ℕ) (lent levels here next end : ℕ) (item : Reader) (ancestry : Ancestry) (before after : List ℕ) (k : Kinds) (r : Start) → r ≡ Whole k → length after ≡ length before
+    → StartMeets (Ok r) m lent levels (item here next) next end ancestry before after → StartWithin (Ok r) here (length m) lent levels end → Member m lent item here next end ancestry before after k
+member_whole m lent levels here next end item ancestry before after k r e l s w = record { kept = l; read = rw e at s; bounds = rw e at w }
 
-pub member_array : (m : List ℕ) (lent levels here next end a b : ℕ) (item : Reader) (ancestry : Ancestry) (before mid after : List ℕ) (k : Kinds) (r : Start) → r ≡ Array a b → length after ≡ length before
-    → StartMeets r m lent levels (item here next) next end ancestry before mid → StartWithin r here (length m) lent levels end
-    → Meets k (array_at m lent (levels - 1) a b) b end ancestry mid after → Within k (a + 1) (length m) lent end → Member m lent item here next end ancestry before after k
-member_array m lent levels here next end a b item ancestry before mid after k r e l s w x y =
+pub member_opens : (m : List ℕ) (lent levels here next end a b : ℕ) (brace : Bool) (item : Reader) (ancestry : Ancestry) (before mid after : List ℕ) (k : Kinds) (r : Start) → r ≡ Opens brace a b → length after ≡ length before
+    → StartMeets (Ok r) m lent levels (item here next) next end ancestry before mid → StartWithin (Ok r) here (length m) lent levels end
+    → Read (group_from m lent (levels - 1) (opening_of brace) a b) b end ancestry mid after k.at k.row k.offset → Ends (a + 1) (length m) lent end k.at k.row k.offset
+    → Member m lent item here next end ancestry before after k
+member_opens m lent levels here next end a b brace item ancestry before mid after k r e l s w x y =
     let q = rw e at w in
-    record { kept = l; meets = sofar_meets k after (rw e at s) x; bounds = within_from k (a + 1) (here + 1) (length m) lent end (omega arith) y }
+    record { kept = l; read = sofar_meets (Ok k) after (rw e at s) x; bounds = omega arith }
 
-pub member_record : (m : List ℕ) (lent levels here next end a b : ℕ) (item : Reader) (ancestry : Ancestry) (before mid after : List ℕ) (k : Kinds) (r : Start) → r ≡ Record a b → length after ≡ length before
-    → StartMeets r m lent levels (item here next) next end ancestry before mid → StartWithin r here (length m) lent levels end
-    → Meets k (record_at m lent (levels - 1) a b) b end ancestry mid after → Within k (a + 1) (length m) lent end → Member m lent item here next end ancestry before after k
-member_record m lent levels here next end a b item ancestry before mid after k r e l s w x y =
-    let q = rw e at w in
-    record { kept = l; meets = sofar_meets k after (rw e at s) x; bounds = within_from k (a + 1) (here + 1) (length m) lent end (omega arith) y }
+-- its members are refused
+pub opens_wrong : (m : List ℕ) (lent levels here next end a b : ℕ) (brace : Bool) (item : Reader) (ancestry : Ancestry) (before mid : List ℕ) (r : Start) (n p : ℕ) → r ≡ Opens brace a b
+    → StartMeets (Ok r) m lent levels (item here next) next end ancestry before mid → group_from m lent (levels - 1) (opening_of brace) a b ≡ fault n p → item here next ≡ fault n p
+opens_wrong m lent levels here next end a b brace item ancestry before mid r n p e s x = sofar_fault (rw e at s) n p x

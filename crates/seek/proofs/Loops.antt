@@ -8,10 +8,12 @@ use Rattle.format.specs.Outcome.{done}
 use Rattle.format.specs.Tokens.{Forest}
 use Rattle.format.specs.Sequences.{Reader, ◌⨾◌, repeat, until}
 use Rattle.seek.specs.Walks.{Comes, Walks}
-use Rattle.seek.specs.declared.steps.Sought.{Sought}
-use Rattle.seek.specs.declared.steps.Sought.TheVariants.{Refused, Past}
+use Rattle.std.specs.Prelude.{Result, Ok, Err}
+use Rattle.seek.specs.declared.steps.Past.{Past}
+use Rattle.seek.specs.declared.steps.Stop.{Stop}
+use Rattle.seek.specs.declared.steps.Stop.TheVariants.{Unread}
 use Rattle.seek.proofs.Back.{Both, seq_back, parts, until_there, until_stops, until_goes}
-use Rattle.seek.proofs.Walking.{Ended, Ahead, ahead_start, ahead_end, ahead_step, ahead_stop}
+use Rattle.seek.proofs.Walking.{Ahead, ahead_start, ahead_end, ahead_step, ahead_stop}
 
 -- ---- so many
 
@@ -29,7 +31,7 @@ module _ (m : List ℕ) (n : ℕ) (item : Reader) (start first number : ℕ) whe
   turn count at row h = let e : n - count ≡ suc (n - (count + 1)) = omega arith in rw e
 
   module _ {at row left count : ℕ} (s : Some at row left count) where
-    pub some_end : n ≤ count → Walks (Past at row left) m first number (repeat n item start first)
+    pub some_end : n ≤ count → Walks (Ok (record { at = at; row = row; left = left })) m first number (repeat n item start first)
     unfolding repeat
     some_end h f end e =
         let a = s.ahead f end e in
@@ -41,16 +43,16 @@ module _ (m : List ℕ) (n : ℕ) (item : Reader) (start first number : ℕ) whe
       both : (f : Forest) (end : ℕ) (e : repeat n item start first ≡ done (f, end)) → Both item (repeat (n - (count + 1)) item) at row (s.ahead f end e).rest end
       both f end e = seq_back item _ at row _ end (sym (turn count at row more) ∙ (s.ahead f end e).gives)
 
-      pub some_stop : (r : Sought) → Ended r → Walks r m row left (item at row) → Walks r m first number (repeat n item start first)
-      some_stop r z w f end e =
+      pub some_stop : (r : Stop) → Walks (Err r) m row left (item at row) → Walks (Err r) m first number (repeat n item start first)
+      some_stop r w f end e =
           let b = both f end e in
-          ahead_stop (s.ahead f end e) m item _ at b r z (w b.first b.next b.read) end
+          ahead_stop (s.ahead f end e) m item _ at b r (w b.first b.next b.read) end
 
-      pub some_step : (next row' left' : ℕ) → Walks (Past next row' left') m row left (item at row) → Some next row' left' (count + 1)
-      some_step next row' left' w =
+      pub some_step : (p : Past) → Walks (Ok p) m row left (item at row) → Some p.at p.row p.left (count + 1)
+      some_step p w =
           record {
             most = omega arith;
-            ahead = λ f end e. let b = both f end e in ahead_step (s.ahead f end e) m item _ at b next row' left' (w b.first b.next b.read);
+            ahead = λ f end e. let b = both f end e in ahead_step (s.ahead f end e) m item _ at b p (w b.first b.next b.read);
           }
 
 -- ---- up to a closing mark
@@ -65,18 +67,18 @@ module _ (m : List ℕ) (gap : ℕ → ℕ) (closing : ℕ) (item : Reader) (sta
   Until at row left = (f : Forest) (end : ℕ) → until m (length m) gap closing item start first ≡ done (f, end) → Left f end at row left
 
   -- a walk over them, and over the closing mark
-  abbrev pub Closes : Sought → Type 0
+  abbrev pub Closes : Result Past Stop → Type 0
   Closes r = (f : Forest) (end : ℕ) → until m (length m) gap closing item start first ≡ done (f, end) → Comes r m first number f (end + 1)
 
   pub until_start : Until start first number
   until_start f end e = record { fuel = length m; ahead = ahead_start first number f end _ e }
 
   module _ {at row left : ℕ} (s : Until at row left) where
-    pub until_early : length m ≤ gap at → Closes Refused
+    pub until_early : length m ≤ gap at → Closes (Err Unread)
     until_early h f end e = let u = s f end e in until_there m gap closing item u.fuel at row _ u.ahead.gives h
 
     module _ (there : gap at < length m) where
-      pub until_end : get_or m (gap at) 0 ≡ closing → Closes (Past (gap at + 1) row left)
+      pub until_end : get_or m (gap at) 0 ≡ closing → Closes (Ok (record { at = gap at + 1; row = row; left = left }))
       until_end c f end e =
           let u = s f end e in
           let q = until_stops m gap closing item at row _ end there u.fuel u.ahead.gives c in
@@ -90,13 +92,13 @@ module _ (m : List ℕ) (gap : ℕ → ℕ) (closing : ℕ) (item : Reader) (sta
             let g = until_goes m gap closing item at row _ end there u.fuel u.ahead.gives more in
             (g.0, seq_back item _ (gap at) row _ end g.1)
 
-        pub until_stop : (r : Sought) → Ended r → Walks r m row left (item (gap at) row) → Closes r
-        until_stop r z w f end e =
+        pub until_stop : (r : Stop) → Walks (Err r) m row left (item (gap at) row) → Closes (Err r)
+        until_stop r w f end e =
             let b = (goes f end e).1 in
-            ahead_stop (s f end e).ahead m item _ (gap at) b r z (w b.first b.next b.read) (end + 1)
+            ahead_stop (s f end e).ahead m item _ (gap at) b r (w b.first b.next b.read) (end + 1)
 
-        pub until_step : (next row' left' : ℕ) → Walks (Past next row' left') m row left (item (gap at) row) → Until next row' left'
-        until_step next row' left' w f end e =
+        pub until_step : (p : Past) → Walks (Ok p) m row left (item (gap at) row) → Until p.at p.row p.left
+        until_step p w f end e =
             let g = goes f end e in
             let b = g.1 in
-            record { fuel = g.0; ahead = ahead_step (s f end e).ahead m item _ (gap at) b next row' left' (w b.first b.next b.read) }
+            record { fuel = g.0; ahead = ahead_step (s f end e).ahead m item _ (gap at) b p (w b.first b.next b.read) }

@@ -22,14 +22,15 @@ use Rattle.tokens.specs.Answers.{Laid, onto}
 use Rattle.containers.specs.Lists.{closed}
 use Rattle.items.specs.Items.{Opened}
 use Rattle.seek.specs.Walks.{Comes, Walks}
-use Rattle.seek.specs.declared.steps.Sought.{Sought}
-use Rattle.seek.specs.declared.steps.Sought.TheVariants.{Past}
+use Rattle.std.specs.Prelude.{Result, Ok, Err}
+use Rattle.seek.specs.declared.steps.Past.{Past}
+use Rattle.seek.specs.declared.steps.Stop.{Stop}
 use Rattle.seek.proofs.Tableless.{Tableless, empty, no_tables, container_no_table, tableless_kept, items_kept}
 use Rattle.seek.proofs.Back.{no_fault, bind_back, parts}
 use Rattle.seek.proofs.Walking.{comes_on, comes_under, passed_none}
 
 -- over what a container holds, and so over the container
-pub closed_walks : (r : Sought) (m : List ℕ) (opening : Opening) (at start shut row left : ℕ) (o : Parsed Forest)
+pub closed_walks : (r : Result Past Stop) (m : List ℕ) (opening : Opening) (at start shut row left : ℕ) (o : Parsed Forest)
     → ((f : Forest) (end : ℕ) → o ≡ done (f, end) → Comes r m (row + 1) left f (end + shut)) → Walks r m row left (closed opening at start shut o)
 unfolding closed container ◌>>=◌
 closed_walks r m opening at start shut row left (fault n p) w f next e = no_fault (fault n p) n p (f, next) refl e
@@ -38,7 +39,7 @@ closed_walks r m opening at start shut row left (done u) w f next e =
     rw (← q.0, ← q.1) (comes_under m r row left _ u.0 (u.1 + shut) (container_no_table opening) (w u.0 u.1 refl))
 
 -- over what remains, after tokens with no table
-onto_walks : (r : Sought) (m : List ℕ) (row row' left : ℕ) (f : Forest) (o : Parsed Forest) → Tableless f → row' ≡ row + size f
+onto_walks : (r : Result Past Stop) (m : List ℕ) (row row' left : ℕ) (f : Forest) (o : Parsed Forest) → Tableless f → row' ≡ row + size f
     → Walks r m row' left o → Walks r m row left (onto f o)
 unfolding onto ◌>>=◌
 onto_walks r m row row' left f (fault n p) t h w g next e = no_fault (fault n p) n p (g, next) refl e
@@ -88,7 +89,7 @@ module _ (m : List ℕ) (grammar : Grammar) (opening : Opening) (at row : ℕ) w
 
   -- it is read whole
   pub member_past : (next row' left : ℕ) (ancestry : Ancestry) (before after : List ℕ) → ((nested : Opening → Reader) → Laid (member nested) row 1 ancestry before after next row')
-      → (nested : Opening → Reader) → Walks (Past next row' left) m row left (member nested)
+      → (nested : Opening → Reader) → Walks (Ok (record { at = next; row = row'; left = left })) m row left (member nested)
   member_past next row' left ancestry before after h nested f end e =
       let l = h never in
       let q = parts (sym (items_same m (length m) grammar nested opening at row _ l.read) ∙ e) in
@@ -96,7 +97,7 @@ module _ (m : List ℕ) (grammar : Grammar) (opening : Opening) (at row : ℕ) w
       rw (← q.0, ← q.1) (passed_none m row left l.forest next row' t l.took)
 
   -- a container opens, after a key in an object
-  pub member_opens : (r : Sought) (left : ℕ) (ancestry : Ancestry) (before after : List ℕ) (o : Opening) (here row' : ℕ) → Opened member row ancestry before after o here row'
+  pub member_opens : (r : Result Past Stop) (left : ℕ) (ancestry : Ancestry) (before after : List ℕ) (o : Opening) (here row' : ℕ) → Opened member row ancestry before after o here row'
       → (nested : Opening → Reader) → Walks r m row' left (nested o here row') → Walks r m row left (member nested)
   unfolding onto ◌>>=◌
   member_opens r left ancestry before after o here row' h nested w =

@@ -12,24 +12,19 @@ use Rattle.format.specs.Rows.{Ancestry}
 use Rattle.format.specs.Containers.{table, typed_as}
 use Rattle.format.specs.Panel.{tables, pick}
 use Rattle.laws.proofs.Holds.{of_done}
-use Rattle.tokens.specs.Answers.{Meets, Within}
-use Rattle.tokens.specs.declared.Step.{Step}
-use Rattle.tokens.specs.declared.Step.TheVariants.{Fault, Next}
+use Rattle.tokens.specs.Answers.{Laid}
+use Rattle.std.specs.Prelude.{Ok}
+use Rattle.tokens.specs.declared.End.{End}
 use Rattle.seek.specs.Tables.{Found}
-use Rattle.seek.specs.Walks.{passed, Walks, SoughtWithin}
+use Rattle.seek.specs.Walks.{Walks}
 use Rattle.seek.proofs.Tableless.{OneTable, one_table, table_gives, no_tables, typed_as_tableless}
 use Rattle.seek.proofs.Back.{no_fault, parts}
 
-pub passed_within : (s : Step) (left low high : ℕ) → Within s low high high → SoughtWithin (passed s left) low high
-passed_within (Fault n p) left low high w = tt
-passed_within (Next next row) left low high w = w
-
 -- what was read whole is passed, if so many tables are in it
-pub pass_whole : (s : Step) (m : List ℕ) (row k left left' : ℕ) (o : Parsed Forest) (ancestry : Ancestry) (before after : List ℕ)
+pub pass_whole : (e : End) (m : List ℕ) (row k left left' : ℕ) (o : Parsed Forest) (ancestry : Ancestry) (before after : List ℕ)
     → ((f : Forest) (next : ℕ) → o ≡ done (f, next) → left ≡ length (tables row f) + left')
-    → Meets s o row k ancestry before after → Walks (passed s left') m row left o
-pass_whole (Fault n p) m row k left left' o ancestry before after c e f next h = no_fault o n p (f, next) e h
-pass_whole (Next next' row') m row k left left' o ancestry before after c l f next h =
+    → Laid o row k ancestry before after e.at e.row → Walks (Ok (record { at = e.at; row = e.row; left = left' })) m row left o
+pass_whole e m row k left left' o ancestry before after c l f next h =
     let q = parts (sym l.read ∙ h) in
     record { ended = q.1; took = rw q.0 at l.took; fewer = c f next h }
 

@@ -4,8 +4,6 @@ use mathlib.Core.Path.{◌≡◌, refl, sym, ◌∙◌}
 use mathlib.Core.Bool.{false}
 use mathlib.Core.List.{List, [], ◌∷◌, append-nil}
 use native.Mathlib.Omega.{arith}
-use types.Run.{OneOf, miss}
-use denote.Enum.Declared.{tag_of}
 use lib.ListN.{length}
 use Rattle.format.specs.Conditions.{when◌then◌else◌}
 use Rattle.format.specs.Outcome.{Parsed, done}
@@ -16,28 +14,19 @@ use Rattle.format.specs.Panel as Panel
 use Rattle.format.specs.Panel.{tables, pick}
 use Rattle.format.proofs.Forests.{⊕-assoc, size_append}
 use Rattle.seek.specs.Tables.{Found}
-use Rattle.seek.specs.Walks.{Passed, Comes, SoughtWithin}
-use Rattle.seek.specs.declared.steps.Sought.{Sought}
-use Rattle.seek.specs.declared.steps.Sought.TheVariants.{Refused, Past, Table}
-use Rattle.seek.specs.contracts.steps.Sought.{the_type}
+use Rattle.seek.specs.Walks.{Passed, Comes, PastWithin}
+use Rattle.std.specs.Prelude.{Result, Ok, Err}
+use Rattle.seek.specs.declared.steps.Past.{Past}
+use Rattle.seek.specs.declared.steps.Stop.{Stop}
+use Rattle.seek.specs.declared.steps.Stop.TheVariants.{Unread, Found as AtTable}
 use Rattle.seek.proofs.Picking.{tables_append, tables-length, pick_first, pick_past}
 use Rattle.seek.proofs.Tableless.{Tableless, empty, no_tables}
 use Rattle.seek.proofs.Back.{Both}
 
--- an answer at which a walk ends
-abbrev pub Ended : Sought → Type 0
-Ended s = (next row left : ℕ) → s ≡ Past next row left → ⊥
-
-pub ended_within : (s : Sought) → Ended s → (low high : ℕ) → SoughtWithin s low high
-ended_within Refused z low high = tt
-ended_within (Past next row left) z low high = absurd (z _ _ _ refl)
-ended_within (Table brace first row) z low high = tt
-
 -- what ends from a place on ends from every place before it on
-pub within_from : (s : Sought) (low low' high : ℕ) → low' ≤ low → SoughtWithin s low high → SoughtWithin s low' high
-within_from Refused low low' high h w = tt
-within_from (Past next row left) low low' high h w = omega arith
-within_from (Table brace first row) low low' high h w = tt
+pub within_from : (s : Result Past Stop) (low low' high : ℕ) → low' ≤ low → PastWithin s low high → PastWithin s low' high
+within_from (Ok p) low low' high h w = omega arith
+within_from (Err s) low low' high h w = tt
 
 module _ (m : List ℕ) where
   -- what is found in a list is found where another picks the same
@@ -55,12 +44,12 @@ module _ (m : List ℕ) where
   found_later row left left' f g e h =
       found_as h _ left (rw (tables_append row f g, e) (pick_past (tables row f) (tables (row + size f) g) left' ∙ h.picked))
 
-  pub comes_on : (s : Sought) (row left left' : ℕ) (f g : Forest) (next : ℕ) → left ≡ length (tables row f) + left'
+  pub comes_on : (s : Result Past Stop) (row left left' : ℕ) (f g : Forest) (next : ℕ) → left ≡ length (tables row f) + left'
       → Comes s m (row + size f) left' g next → Comes s m row left (f ⊕ g) next
-  comes_on Refused row left left' f g next e c = c
-  comes_on (Past next' row' left'') row left left' f g next e c =
+  comes_on (Err Unread) row left left' f g next e c = c
+  comes_on (Ok p) row left left' f g next e c =
       record { ended = c.ended; took = omega (arith, c.took, size_append f g); fewer = omega (arith, c.fewer, tables-length row f g) }
-  comes_on (Table b first row') row left left' f g next e c = found_later row left left' f g e c
+  comes_on (Err (AtTable t)) row left left' f g next e c = found_later row left left' f g e c
 
   -- tokens with no table are passed
   pub passed_none : (row left : ℕ) (f : Forest) (next row' : ℕ) → Tableless f → row' ≡ row + size f → Passed row left f next next row' left
@@ -71,13 +60,13 @@ module _ (m : List ℕ) where
   unfolding tables when◌then◌else◌
   under_is row t below e = let q : row + 1 ≡ suc row = omega arith in rw (e, q) (append-nil (tables (suc row) below))
 
-  pub comes_under : (s : Sought) (row left : ℕ) (t : Token) (below : Forest) (next : ℕ) → is_kind kind_of_table t.kind ≡ false
+  pub comes_under : (s : Result Past Stop) (row left : ℕ) (t : Token) (below : Forest) (next : ℕ) → is_kind kind_of_table t.kind ≡ false
       → Comes s m (row + 1) left below next → Comes s m row left (node t below none) next
   unfolding size
-  comes_under Refused row left t below next e c = c
-  comes_under (Past next' row' left') row left t below next e c =
+  comes_under (Err Unread) row left t below next e c = c
+  comes_under (Ok p) row left t below next e c =
       record { ended = c.ended; took = omega (arith, c.took); fewer = rw (under_is row t below e) c.fewer }
-  comes_under (Table b first row') row left t below next e c = rw (under_is row t below e) c
+  comes_under (Err (AtTable k)) row left t below next e c = rw (under_is row t below e) c
 
 -- ---- members one after another
 
@@ -96,18 +85,18 @@ ahead_start first number f end o e = record { before = none; rest = f; gives = e
 
 module _ {first number : ℕ} {f : Forest} {end : ℕ} {remains : Parsed Forest} {row left : ℕ} (a : Ahead first number f end remains row left) where
   -- a walk over what remains is a walk over all
-  pub ahead_comes : (m : List ℕ) (s : Sought) (next : ℕ) → Comes s m row left a.rest next → Comes s m first number f next
+  pub ahead_comes : (m : List ℕ) (s : Result Past Stop) (next : ℕ) → Comes s m row left a.rest next → Comes s m first number f next
   ahead_comes m s next c = rw a.whole (comes_on m s first number left a.before a.rest next a.fewer (rw (← a.took) c))
 
   -- nothing remains
   pub ahead_end : (m : List ℕ) (next place : ℕ) → a.rest ≡ none → place ≡ next → Passed first number f next place row left
   unfolding size
-  ahead_end m next place e q = ahead_comes m (Past place row left) next (rw (e, q) (passed_none m row left none next row empty (omega arith)))
+  ahead_end m next place e q = ahead_comes m (Ok (record { at = place; row = row; left = left })) next (rw (e, q) (passed_none m row left none next row empty (omega arith)))
 
   module _ (m : List ℕ) (item other : Reader) (at : ℕ) (b : Both item other at row a.rest end) where
     -- one more is passed
-    pub ahead_step : (next row' left' : ℕ) → Passed row left b.first b.next next row' left' → Ahead first number f end (other next row') row' left'
-    ahead_step next row' left' p =
+    pub ahead_step : (q : Past) → Passed row left b.first b.next q.at q.row q.left → Ahead first number f end (other q.at q.row) q.row q.left
+    ahead_step q p =
         record {
           before = a.before ⊕ b.first;
           rest = b.rest;
@@ -118,8 +107,7 @@ module _ {first number : ℕ} {f : Forest} {end : ℕ} {remains : Parsed Forest}
         }
 
     -- the walk ends in the next
-    pub ahead_stop : (s : Sought) → Ended s → Comes s m row left b.first b.next → (next : ℕ) → Comes s m first number f next
-    ahead_stop Refused z c next = absurd c
-    ahead_stop (Past next' row' left') z c next = absurd (z _ _ _ refl)
-    ahead_stop (Table brace place row') z c next =
+    pub ahead_stop : (s : Stop) → Comes (Err s) m row left b.first b.next → (next : ℕ) → Comes (Err s) m first number f next
+    ahead_stop Unread c next = absurd c
+    ahead_stop (AtTable t) c next =
         rw a.whole (found_later m first number left a.before a.rest a.fewer (rw (← a.took, b.whole) (found_first m row left b.first b.rest c)))

@@ -1,5 +1,5 @@
 -- What a table that is found by its number is.
-use Rattle.std.specs.Prelude.{ℕ, suc, ◌≡◌, List, [], ◌∷◌, ◌++◌, length, eqb}
+use Rattle.std.specs.Prelude.{ℕ, suc, ◌≡◌, List, [], ◌∷◌, ◌++◌, length, eqb, Option, Some, None}
 use Rattle.format.specs.Conditions.{when◌then◌else◌}
 use Rattle.format.specs.Outcome.{fault, done}
 use Rattle.format.specs.Refusals.{not_there}
@@ -10,8 +10,7 @@ use Rattle.format.specs.Containers as Containers
 use Rattle.format.specs.Grammars.{new}
 use Rattle.format.specs.Read.{read_whole}
 use Rattle.format.specs.Panel.{Table, tables, pick}
-use Rattle.seek.specs.declared.TableFound.{TableFound}
-use Rattle.seek.specs.declared.TableFound.TheVariants.{At, Missing}
+use Rattle.seek.specs.declared.steps.Table as steps
 
 -- the new edition accepts this message
 pub record Accepted (m : List ℕ) : Type 0 where
@@ -28,9 +27,9 @@ pub record Found (m : List ℕ) (ts : List Table) (number : ℕ) (opening : Open
   pub read : Containers.table m (length m) opening first row ≡ done (node table.token table.under none, end)
 
 -- the answer to a number, for a message whose tokens are these
-abbrev pub TableMeets : TableFound → List ℕ → Forest → ℕ → Type 0
-TableMeets (At first brace row) m f number = Found m (tables 0 f) number (opening_of brace) first row
-TableMeets Missing m f number = pick (tables 0 f) number ≡ fault not_there 0
+abbrev pub TableMeets : Option steps.Table → List ℕ → Forest → ℕ → Type 0
+TableMeets (Some t) m f number = Found m (tables 0 f) number (opening_of t.brace) t.first t.row
+TableMeets None m f number = pick (tables 0 f) number ≡ fault not_there 0
 
 -- the rows of this kind, by number, in a list that starts at row n
 unfoldable pub of_kind : Kind → ℕ → List Row → List ℕ

@@ -10,36 +10,25 @@ ghost use Rattle.format.specs.Read.{read_whole};
 ghost use Rattle.seek.specs.Tables.{Accepted, TableMeets};
 
 use crate::nest::member;
-use crate::steps::Sought;
+use crate::steps::{Stop, Table};
 use format::limits::{LIMIT, VALUE_LEVELS};
 use scan::noops::skip;
 
 mod nest;
-mod steps;
+pub mod steps;
 
-// A table's first byte, what it opens with, and its row; or there are not so many.
-#[derive(Clone, Copy)]
-pub enum TableFound {
-    At {
-        first: usize,
-        brace: bool,
-        row: usize,
-    },
-    Missing,
-}
-
-// The table with this number, from 0, of an accepted message.
-pub fn table_at(message: &[u8], number: usize) -> TableFound
+// The table with this number, from 0, of an accepted message; none where there are not so many.
+pub fn table_at(message: &[u8], number: usize) -> Option<Table>
     requires { Accepted message.now }
     ensures { (f : Forest) → read_whole message.now new ≡ done f → TableMeets result message.now f number }
 {
     if (LIMIT as usize) < message.len() {
-        return TableFound::Missing;
+        return None;
     }
     let at = skip(message, 0);
     match member(message, VALUE_LEVELS, false, at, 0, number) {
-        Sought::Refused => TableFound::Missing,
-        Sought::Past(_, _, _) => TableFound::Missing,
-        Sought::Table(brace, first, row) => TableFound::At { first, brace, row },
+        Err(Stop::Found(table)) => Some(table),
+        Err(Stop::Unread) => None,
+        Ok(_) => None,
     }
 }

@@ -10,9 +10,9 @@ ghost use Rattle.format.specs.Grammars.{new};
 ghost use Rattle.format.specs.Read.{nested};
 ghost use Rattle.tokens.specs.Answers.{Here};
 ghost use Rattle.items.specs.Headers.{member_of};
-ghost use Rattle.seek.specs.Walks.{Walks, Comes, SoughtWithin};
+ghost use Rattle.seek.specs.Walks.{Walks, Comes, PastWithin};
 
-use crate::steps::{Sought, typed_at};
+use crate::steps::{Past, Stop, typed_at};
 use format::answers::Edition;
 use format::marks::closing_mark;
 use items::headers::{Header, header_at};
@@ -29,14 +29,14 @@ pub fn member(
     at: usize,
     row: usize,
     left: usize,
-) -> Sought
+) -> Result<Past, Stop>
     requires { Here message.now (length message.now) at row }
     ensures meets { Walks result message.now row left (member_of message.now (length message.now) new levels (opening_of brace) at row) }
-    ensures bounds { SoughtWithin result (at + 1) (length message.now) }
+    ensures bounds { PastWithin result (at + 1) (length message.now) }
 {
     let end = message.len();
     let mut none = [0u32; 0];
-    match member_start(
+    let item = member_start(
         Edition::New,
         message,
         &mut none,
@@ -45,10 +45,18 @@ pub fn member(
         at,
         row,
         OUTERMOST,
-    ) {
-        Item::Fault(_, _) => Sought::Refused,
-        Item::Next(next, after) => Sought::Past(next, after, left),
-        Item::Opens(b, here, below) => container(message, levels, b, here, below, left),
+    )?;
+    match item {
+        Item::Whole(end) => Ok(Past {
+            at: end.at,
+            row: end.row,
+            left,
+        }),
+        Item::Opens {
+            brace: opened,
+            at: here,
+            row: below,
+        } => container(message, levels, opened, here, below, left),
     }
 }
 
@@ -62,27 +70,21 @@ fn counted(
     start: usize,
     first: usize,
     number: usize,
-) -> Sought
+) -> Result<Past, Stop>
     requires { Here message.now (length message.now) start first × (n ≤ limit) }
     ensures meets { Walks result message.now first number (repeat n (spaced message.now (member_of message.now (length message.now) new levels (opening_of brace))) start first) }
-    ensures bounds { SoughtWithin result start (length message.now) }
+    ensures bounds { PastWithin result start (length message.now) }
 {
-    let mut at = start;
-    let mut row = first;
-    let mut left = number;
-    let mut count = 0;
-    while count < n {
-        let here = skip(message, at);
-        let one = member(message, levels, brace, here, row, left);
-        let Sought::Past(next, after, rest) = one else {
-            return one;
-        };
-        at = next;
-        row = after;
-        left = rest;
-        count += 1;
+    let mut past = Past {
+        at: start,
+        row: first,
+        left: number,
+    };
+    for count in 0..n {
+        let here = skip(message, past.at);
+        past = member(message, levels, brace, here, past.row, past.left)?;
     }
-    Sought::Past(at, row, left)
+    Ok(past)
 }
 
 // Members up to the closing mark, which is passed too, from `start` and `first` on, with `number` tables to pass.
@@ -94,31 +96,31 @@ fn plain(
     start: usize,
     first: usize,
     number: usize,
-) -> Sought
+) -> Result<Past, Stop>
     requires { Here message.now (length message.now) start first }
     ensures meets { (f : Forest) (end : ℕ) → until message.now (length message.now) (skip_in message.now) (closes (opening_of brace)) (member_of message.now (length message.now) new levels (opening_of brace)) start first ≡ done (f, end) → Comes result message.now first number f (end + 1) }
-    ensures bounds { SoughtWithin result start (length message.now) }
+    ensures bounds { PastWithin result start (length message.now) }
 {
     let end = message.len();
     let closing = closing_mark(brace);
-    let mut at = start;
-    let mut row = first;
-    let mut left = number;
+    let mut past = Past {
+        at: start,
+        row: first,
+        left: number,
+    };
     loop {
-        let here = skip(message, at);
+        let here = skip(message, past.at);
         if end <= here {
-            return Sought::Refused;
+            return Err(Stop::Unread);
         }
         if message[here] == closing {
-            return Sought::Past(here + 1, row, left);
+            return Ok(Past {
+                at: here + 1,
+                row: past.row,
+                left: past.left,
+            });
         }
-        let one = member(message, levels, brace, here, row, left);
-        let Sought::Past(next, after, rest) = one else {
-            return one;
-        };
-        at = next;
-        row = after;
-        left = rest;
+        past = member(message, levels, brace, here, past.row, past.left)?;
     }
 }
 
@@ -131,17 +133,18 @@ fn container(
     at: usize,
     row: usize,
     left: usize,
-) -> Sought
+) -> Result<Past, Stop>
     requires { Here message.now (length message.now) at row × (at < length message.now) }
     ensures meets { Walks result message.now row left (nested message.now (length message.now) new levels (opening_of brace) at row) }
-    ensures bounds { SoughtWithin result (at + 1) (length message.now) }
+    ensures bounds { PastWithin result (at + 1) (length message.now) }
 {
     let end = message.len();
     let below = row + 1;
-    match header_at(message, end, levels, at, row) {
-        Header::Fault(_, _) => Sought::Refused,
+    match header_at(message, end, levels, at, row)? {
         Header::Typed => typed_at(message, brace, at, row, left),
-        Header::Counted(n, start) => { counted(message, levels - 1, brace, n, start, below, left) }
+        Header::Counted { count, start } => {
+            counted(message, levels - 1, brace, count, start, below, left)
+        }
         Header::Plain => plain(message, levels - 1, brace, at + 1, below, left),
     }
 }

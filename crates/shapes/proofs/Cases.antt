@@ -5,17 +5,16 @@ use mathlib.Core.Bool.{Bool, true, false}
 use mathlib.Core.List.{List}
 use native.Mathlib.Omega.{arith}
 use lib.ListN.{length, get_or}
-use borrow.Author.Tests.{le-leb, lt-leb, lt-ltb, le-ltb, eq-eqb, ne_eqb}
-use Rattle.format.specs.Conditions.{when◌then◌else◌, between}
+use borrow.Author.Tests.{lt-ltb, le-ltb, eq-eqb, ne_eqb}
+use Rattle.format.specs.Conditions.{when◌then◌else◌}
 use Rattle.format.specs.Outcome.{fault, done, ◌>>=◌, ◌>>◌, guard}
 use Rattle.format.specs.Limits.{dimension_limit}
 use Rattle.format.specs.Refusals.{ends_too_early, not_allowed, wrong_integer}
 use Rattle.format.specs.Marks.{is_integer, '#', '$', '[', ']'}
-use Rattle.format.specs.Tokens.{Forest, none, plain_count, first_slowest, first_fastest}
+use Rattle.format.specs.Tokens.{none}
 use Rattle.format.specs.Bytes.{byte, one_of}
-use Rattle.format.specs.Integers.{integer}
 use Rattle.format.specs.Sequences.{Reader, ◌⨾◌, repeat}
-use Rattle.format.specs.Dimensions.{shaped, marked, bare, listed, counted, counted_bare, vector, slowest, fastest, plain, shape}
+use Rattle.format.specs.Dimensions.{marked, bare, listed, counted, counted_bare, vector, slowest, fastest, plain, shape}
 
 -- ---- so many
 
@@ -52,24 +51,6 @@ module _ (m : List ℕ) (lent : ℕ) where
     unfolding listed byte guard ◌>>◌ ◌>>=◌ when◌then◌else◌
     listed_more zero p h e = absurd (omega arith)
     listed_more (suc left) p h e = let q : suc left - 1 ≡ left = omega arith in rw (lt-ltb _ _ h, ne_eqb _ _ e, q)
-
-    module _ (item : Reader) where
-      pub counted_wrong : (x y : ℕ) → integer m at ≡ fault x y → counted m lent place item at row ≡ fault x y
-      unfolding counted ◌>>=◌
-      counted_wrong x y e = rw e
-
-      module _ (n next : ℕ) (read : integer m at ≡ done (n, next)) where
-        pub counted_few : n < 1 → counted m lent place item at row ≡ fault wrong_integer place
-        unfolding counted between guard ◌>>◌ ◌>>=◌
-        counted_few h = rw (read, lt-leb _ _ h)
-
-        pub counted_over : 1 ≤ n → dimension_limit < n → counted m lent place item at row ≡ fault wrong_integer place
-        unfolding counted between guard ◌>>◌ ◌>>=◌
-        counted_over g h = rw (read, le-leb _ _ g, lt-leb _ _ h)
-
-        pub counted_there : 1 ≤ n → n ≤ dimension_limit → counted m lent place item at row ≡ repeat n item next row
-        unfolding counted between guard ◌>>◌ ◌>>=◌
-        counted_there g h = rw (read, le-leb _ _ g, le-leb _ _ h)
 
     pub counted_bare_early : length m ≤ at → counted_bare m lent place at row ≡ fault ends_too_early (length m)
     unfolding counted_bare one_of byte guard ◌>>◌ ◌>>=◌
@@ -119,63 +100,28 @@ module _ (m : List ℕ) (lent : ℕ) where
 
   -- ---- shapes
 
-  module _ (at : ℕ) where
-    pub plain_wrong : (x y : ℕ) → integer m at ≡ fault x y → plain m lent at ≡ fault x y
-    unfolding plain ◌>>=◌
-    plain_wrong x y e = rw e
+  module _ (at row : ℕ) (wraps : Bool) where
+    pub shape_early : length m ≤ at → shape m lent wraps at row ≡ fault ends_too_early (length m)
+    unfolding shape byte guard ◌>>◌ ◌>>=◌
+    shape_early h = rw (le-ltb _ _ h)
 
-    pub plain_there : (n next : ℕ) → integer m at ≡ done (n, next) → plain m lent at ≡ done (record { many = n; dimensions = none; order = plain_count }, next)
-    unfolding plain ◌>>=◌
-    plain_there n next e = rw e
+    pub shape-plain : at < length m → (get_or m at 0 ≡ '[' → ⊥) → shape m lent wraps at row ≡ plain m lent at
+    unfolding shape byte guard ◌>>◌ ◌>>=◌ when◌then◌else◌
+    shape-plain h e = rw (lt-ltb _ _ h, ne_eqb _ _ e)
 
-    module _ (row : ℕ) where
-      pub slowest_wrong : (x y : ℕ) → vector m lent at (at + 1) row ≡ fault x y → slowest m lent at row ≡ fault x y
-      unfolding slowest ◌>>=◌
-      slowest_wrong x y e = rw e
+    module _ (there : at < length m) (opens : get_or m at 0 ≡ '[') where
+      pub shape_short : length m ≤ at + 1 → shape m lent wraps at row ≡ fault ends_too_early (length m)
+      unfolding shape byte guard ◌>>◌ ◌>>=◌ when◌then◌else◌
+      shape_short h = rw (lt-ltb _ _ there, eq-eqb _ _ opens, le-ltb _ _ h)
 
-      pub slowest_there : (dims : Forest) (end : ℕ) → vector m lent at (at + 1) row ≡ done (dims, end) → slowest m lent at row ≡ done (shaped first_slowest dims, end)
-      unfolding slowest ◌>>=◌
-      slowest_there dims end e = rw e
+      pub shape-slowest : at + 1 < length m → (get_or m (at + 1) 0 ≡ '[' → ⊥) → shape m lent wraps at row ≡ slowest m lent at row
+      unfolding shape byte guard ◌>>◌ ◌>>=◌ when◌then◌else◌
+      shape-slowest h e = rw (lt-ltb _ _ there, eq-eqb _ _ opens, lt-ltb _ _ h, ne_eqb _ _ e)
 
-      pub fastest_wrong : (x y : ℕ) → vector m lent at (at + 2) row ≡ fault x y → fastest m lent at row ≡ fault x y
-      unfolding fastest ◌>>=◌
-      fastest_wrong x y e = rw e
+      pub shape-fastest : at + 1 < length m → get_or m (at + 1) 0 ≡ '[' → wraps ≡ true → shape m lent wraps at row ≡ fastest m lent at row
+      unfolding shape byte guard ◌>>◌ ◌>>=◌ when◌then◌else◌
+      shape-fastest h e w = rw (lt-ltb _ _ there, eq-eqb _ _ opens, lt-ltb _ _ h, eq-eqb _ _ e, w)
 
-      module _ (dims : Forest) (end : ℕ) (read : vector m lent at (at + 2) row ≡ done (dims, end)) where
-        pub fastest_early : length m ≤ end → fastest m lent at row ≡ fault ends_too_early (length m)
-        unfolding fastest one_of byte guard ◌>>◌ ◌>>=◌
-        fastest_early h = rw (read, le-ltb _ _ h)
-
-        pub fastest_open : end < length m → (']' ≡ get_or m end 0 → ⊥) → fastest m lent at row ≡ fault not_allowed end
-        unfolding fastest one_of byte guard ◌>>◌ ◌>>=◌
-        fastest_open h e = rw (read, lt-ltb _ _ h, ne_eqb _ _ e)
-
-        pub fastest_there : end < length m → ']' ≡ get_or m end 0 → fastest m lent at row ≡ done (shaped first_fastest dims, end + 1)
-        unfolding fastest one_of byte guard ◌>>◌ ◌>>=◌
-        fastest_there h e = rw (read, lt-ltb _ _ h, eq-eqb _ _ e)
-
-      module _ (wraps : Bool) where
-        pub shape_early : length m ≤ at → shape m lent wraps at row ≡ fault ends_too_early (length m)
-        unfolding shape byte guard ◌>>◌ ◌>>=◌
-        shape_early h = rw (le-ltb _ _ h)
-
-        pub shape-plain : at < length m → (get_or m at 0 ≡ '[' → ⊥) → shape m lent wraps at row ≡ plain m lent at
-        unfolding shape byte guard ◌>>◌ ◌>>=◌ when◌then◌else◌
-        shape-plain h e = rw (lt-ltb _ _ h, ne_eqb _ _ e)
-
-        module _ (there : at < length m) (opens : get_or m at 0 ≡ '[') where
-          pub shape_short : length m ≤ at + 1 → shape m lent wraps at row ≡ fault ends_too_early (length m)
-          unfolding shape byte guard ◌>>◌ ◌>>=◌ when◌then◌else◌
-          shape_short h = rw (lt-ltb _ _ there, eq-eqb _ _ opens, le-ltb _ _ h)
-
-          pub shape-slowest : at + 1 < length m → (get_or m (at + 1) 0 ≡ '[' → ⊥) → shape m lent wraps at row ≡ slowest m lent at row
-          unfolding shape byte guard ◌>>◌ ◌>>=◌ when◌then◌else◌
-          shape-slowest h e = rw (lt-ltb _ _ there, eq-eqb _ _ opens, lt-ltb _ _ h, ne_eqb _ _ e)
-
-          pub shape-fastest : at + 1 < length m → get_or m (at + 1) 0 ≡ '[' → wraps ≡ true → shape m lent wraps at row ≡ fastest m lent at row
-          unfolding shape byte guard ◌>>◌ ◌>>=◌ when◌then◌else◌
-          shape-fastest h e w = rw (lt-ltb _ _ there, eq-eqb _ _ opens, lt-ltb _ _ h, eq-eqb _ _ e, w)
-
-          pub shape_unwrapped : at + 1 < length m → get_or m (at + 1) 0 ≡ '[' → wraps ≡ false → shape m lent wraps at row ≡ slowest m lent at row
-          unfolding shape byte guard ◌>>◌ ◌>>=◌ when◌then◌else◌
-          shape_unwrapped h e w = rw (lt-ltb _ _ there, eq-eqb _ _ opens, lt-ltb _ _ h, eq-eqb _ _ e, w)
+      pub shape_unwrapped : at + 1 < length m → get_or m (at + 1) 0 ≡ '[' → wraps ≡ false → shape m lent wraps at row ≡ slowest m lent at row
+      unfolding shape byte guard ◌>>◌ ◌>>=◌ when◌then◌else◌
+      shape_unwrapped h e w = rw (lt-ltb _ _ there, eq-eqb _ _ opens, lt-ltb _ _ h, eq-eqb _ _ e, w)

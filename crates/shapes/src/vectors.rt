@@ -13,8 +13,9 @@ use dimensions::forms::{Form, item, marked};
 use dimensions::products::times;
 use format::limits::DIMENSION_LIMIT;
 use format::marks::Mark;
+use format::refusals::{Refusal, Refused};
 use rows::Ancestry;
-use scan::integers::{Parsed, integer};
+use scan::integers::integer;
 
 // How many dimensions there may be, as a count is read.
 const MOST_DIMENSIONS: u32 = DIMENSION_LIMIT as u32;
@@ -29,27 +30,21 @@ fn repeated(
     at: usize,
     row: usize,
     ancestry: Ancestry,
-) -> Dims
+) -> Result<Dims, Refused>
     requires { Here message.now lent at row × Wide form }
     ensures meets { Meets result (repeat n (item_of message.now lent form) at row) row (ancestry_of ancestry) rows.old rows.new }
     ensures bounds { Within result at (length message.now) lent }
 {
-    let mut left = n;
-    let mut here = at;
-    let mut free = row;
-    let mut many = 1;
-    while 0 < left {
-        match item(message, rows, lent, form, here, free, ancestry) {
-            Dims::Fault(number, wrong) => return Dims::Fault(number, wrong),
-            Dims::Next(next, link, count) => {
-                many = times(many, count);
-                here = next;
-                free = link;
-            }
-        }
-        left -= 1;
+    let mut read = Dims { at, row, many: 1 };
+    for count in 0..n {
+        let next = item(message, rows, lent, form, read.at, read.row, ancestry)?;
+        read = Dims {
+            at: next.at,
+            row: next.row,
+            many: times(read.many, next.many),
+        };
     }
-    Dims::Next(here, free, many)
+    Ok(read)
 }
 
 // The number of dimensions, and so many. `place` is where a wrong number of them is refused.
@@ -62,23 +57,20 @@ fn counted(
     at: usize,
     row: usize,
     ancestry: Ancestry,
-) -> Dims
+) -> Result<Dims, Refused>
     requires { Here message.now lent at row × Wide form }
     ensures meets { Meets result (counted_at message.now lent place (item_of message.now lent form) at row) row (ancestry_of ancestry) rows.old rows.new }
     ensures bounds { Within result at (length message.now) lent }
 {
-    match integer(message, at) {
-        Parsed::Refused(number, wrong) => Dims::Fault(number, wrong),
-        Parsed::Number(n, next) => {
-            if n < 1 {
-                return Dims::Fault(6, place);
-            }
-            if MOST_DIMENSIONS < n {
-                return Dims::Fault(6, place);
-            }
-            repeated(message, rows, lent, n, form, next, row, ancestry)
-        }
+    let count = integer(message, at)?;
+    let n = count.number;
+    if n < 1 {
+        return Err(Refused(Refusal::WrongInteger, place));
     }
+    if MOST_DIMENSIONS < n {
+        return Err(Refused(Refusal::WrongInteger, place));
+    }
+    repeated(message, rows, lent, n, form, count.next, row, ancestry)
 }
 
 // An integer mark, `#`, and bare integers under that mark.
@@ -90,25 +82,25 @@ fn counted_bare(
     at: usize,
     row: usize,
     ancestry: Ancestry,
-) -> Dims
+) -> Result<Dims, Refused>
     requires { Here message.now lent at row }
     ensures meets { Meets result (counted_bare_at message.now lent place at row) row (ancestry_of ancestry) rows.old rows.new }
     ensures bounds { Within result at (length message.now) lent }
 {
     let end = message.len();
     if end <= at {
-        return Dims::Fault(2, end);
+        return Err(Refused(Refusal::EndsTooEarly, end));
     }
     let mark = message[at];
     if !Mark(mark).is_integer() {
-        return Dims::Fault(3, at);
+        return Err(Refused(Refusal::NotAllowed, at));
     }
     let second = at + 1;
     if end <= second {
-        return Dims::Fault(2, end);
+        return Err(Refused(Refusal::EndsTooEarly, end));
     }
     if message[second] != Mark::COUNT {
-        return Dims::Fault(3, second);
+        return Err(Refused(Refusal::NotAllowed, second));
     }
     counted(
         message,
@@ -131,36 +123,33 @@ fn listed(
     at: usize,
     row: usize,
     ancestry: Ancestry,
-) -> Dims
+) -> Result<Dims, Refused>
     requires { Here message.now lent at row }
     ensures meets { Meets result ((Dimensions.marked message.now lent ⨾ Dimensions.listed message.now lent dimension_limit place) at row) row (ancestry_of ancestry) rows.old rows.new }
     ensures bounds { Within result at (length message.now) lent }
 {
     let end = message.len();
-    let mut left = MOST_DIMENSIONS;
-    let mut here = at;
-    let mut free = row;
-    let mut many = 1;
-    loop {
-        match marked(message, rows, lent, here, free, ancestry) {
-            Dims::Fault(number, wrong) => return Dims::Fault(number, wrong),
-            Dims::Next(next, link, count) => {
-                many = times(many, count);
-                here = next;
-                free = link;
-            }
-        }
-        if left == 0 {
-            return Dims::Fault(6, place);
-        }
+    let mut read = marked(message, rows, lent, at, row, ancestry)?;
+    for count in 0..MOST_DIMENSIONS {
+        let here = read.at;
         if end <= here {
-            return Dims::Fault(2, end);
+            return Err(Refused(Refusal::EndsTooEarly, end));
         }
         if message[here] == Mark::ARRAY_END {
-            return Dims::Next(here + 1, free, many);
+            return Ok(Dims {
+                at: here + 1,
+                row: read.row,
+                many: read.many,
+            });
         }
-        left -= 1;
+        let next = marked(message, rows, lent, here, read.row, ancestry)?;
+        read = Dims {
+            at: next.at,
+            row: next.row,
+            many: times(read.many, next.many),
+        };
     }
+    Err(Refused(Refusal::WrongInteger, place))
 }
 
 // A vector, from the byte after its `[` on.
@@ -172,18 +161,18 @@ pub fn vector(
     at: usize,
     row: usize,
     ancestry: Ancestry,
-) -> Dims
+) -> Result<Dims, Refused>
     requires { Here message.now lent at row }
     ensures meets { Meets result (vector_at message.now lent place at row) row (ancestry_of ancestry) rows.old rows.new }
     ensures bounds { Within result at (length message.now) lent }
 {
     let end = message.len();
     if end <= at {
-        return Dims::Fault(2, end);
+        return Err(Refused(Refusal::EndsTooEarly, end));
     }
     let b = message[at];
     if b == Mark::ARRAY_END {
-        return Dims::Fault(6, place);
+        return Err(Refused(Refusal::WrongInteger, place));
     }
     if b == Mark::COUNT {
         return counted(

@@ -4,31 +4,28 @@ ghost use Rattle.format.specs.TextAnswers.{text_in_table, part};
 ghost use Rattle.format.specs.Answers.{located, first_and_width};
 ghost use Rattle.texts.specs.Memory.{Inside, pointer};
 
-use addresses::slots::{Slot, table};
-use format::answers::Located;
+use addresses::slots::table;
+use format::answers::Span;
 use format::marks::Mark;
+use format::refusals::Refusal;
 use texts::parts::part_at;
 
-// The first byte and the width of the text in the slot of a table row, a leaf row and indexes; or a refusal's number.
+// The first byte and the width of the text in the slot of a table row, a leaf row and indexes; or a refusal.
 pub fn number_in_table(
     message: &[u8],
     rows: &[u32],
     row: usize,
     leaf: usize,
     indexes: &[usize],
-) -> Located
+) -> Result<Span, Refusal>
     ensures is { located result ≡ first_and_width (text_in_table message.now rows.now row leaf indexes.now) }
     ensures bounds { Inside result (length message.now) }
 {
-    match table(rows, message.len(), row, leaf, indexes) {
-        Slot::Refused(number) => Located::Refused(number),
-        Slot::At(mark, first, wide) => {
-            if mark != Mark::TEXT as u32 {
-                return Located::Refused(12);
-            }
-            Located::At(first, wide)
-        }
+    let slot = table(rows, message.len(), row, leaf, indexes)?;
+    if slot.mark != Mark::TEXT as u32 {
+        return Err(Refusal::RowsDontFit);
     }
+    Ok(slot.span)
 }
 
 // That text: the part of the message itself, empty on refusal.

@@ -4,8 +4,8 @@ ghost use Rattle.format.specs.Answers.{answered, located, found, valued, value_o
 ghost use Rattle.values.specs.Answers.{NansApart};
 ghost use Rattle.structs.specs.Answers.{reading_for, place_for, member_for, case_for, bits_for, scalar_for};
 
-use format::answers::{Answer, Span, Token, Value};
-use format::refusals::Refusal;
+use format::answers::{Span, Token, Value};
+use format::refusals::{Refusal, Refused};
 
 // Number and place, and the rows used or the bytes written.
 #[repr(C)]
@@ -44,21 +44,26 @@ pub struct Scalar {
 }
 
 // The reader's and the rewriter's answer.
-#[tactic(auto, unfolding(format::specs::Outcome::number_of, format::specs::Outcome::place_of, format::specs::Outcome::or_zero))]
-pub fn reading_of(answer: Answer) -> Reading
-    ensures { result ≡ reading_for (answered answer) }
-{
-    match answer {
-        Answer::Refused(number, place) => Reading {
-            number,
-            place,
-            amount: 0,
-        },
-        Answer::Done(amount) => Reading {
-            number: 0,
-            place: 0,
-            amount,
-        },
+impl From<Result<usize, Refused>> for Reading {
+    ghost from_gives = { λ answer reading. reading ≡ reading_for (answered answer) };
+
+    #[tactic(auto, unfolding(format::specs::Outcome::number_of, format::specs::Outcome::place_of, format::specs::Outcome::or_zero))]
+    fn from(answer: Result<usize, Refused>) -> Reading {
+        match answer {
+            Err(Refused(refusal, place)) => {
+                let number = refusal.number();
+                Reading {
+                    number,
+                    place,
+                    amount: 0,
+                }
+            }
+            Ok(amount) => Reading {
+                number: 0,
+                place: 0,
+                amount,
+            },
+        }
     }
 }
 

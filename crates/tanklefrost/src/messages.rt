@@ -9,16 +9,13 @@ ghost use Rattle.panel.specs.Layout.{parts_of, number_and_place_parts, rows_part
 ghost use Rattle.structs.specs.Answers.{reading_for};
 ghost use Rattle.structs.specs.Editions.{read_numbered, rewrite_numbered};
 
+use format::refusals::{Refusal, Refused};
 use rows::clear;
-use structs::answers::{Reading, reading_of};
+use structs::answers::Reading;
 use structs::editions::edition_of;
 
 // The answer where the number names no edition.
-const NO_EDITION: Reading = Reading {
-    number: 12,
-    place: 0,
-    amount: 0,
-};
+const NO_EDITION: Result<usize, Refused> = Err(Refused(Refusal::RowsDontFit, 0));
 
 // The panel: number and place.
 #[unsafe(no_mangle)]
@@ -51,10 +48,10 @@ pub extern "C" fn tanklefrost_read(edition: u32, message: &[u8], rows: &mut [u32
     ensures words { rows.new ≡ words_after (length rows.old) (read_numbered edition message.now rows.old) }
 {
     match edition_of(edition) {
-        Some(e) => reading_of(reader::message::read(e, message, rows)),
+        Some(e) => Reading::from(reader::message::read(e, message, rows)),
         None => {
             clear(rows);
-            NO_EDITION
+            Reading::from(NO_EDITION)
         }
     }
 }
@@ -73,11 +70,11 @@ pub extern "C" fn tanklefrost_rewrite(
     ensures words { rows.new ≡ rewrite_words_after (length rows.old) (read_numbered edition message.now rows.old) (rewrite_numbered edition message.now (rows_in rows.old) (length output.old)) }
 {
     match edition_of(edition) {
-        Some(e) => reading_of(rewriter::message::rewrite(e, message, rows, output)),
+        Some(e) => Reading::from(rewriter::message::rewrite(e, message, rows, output)),
         None => {
             clear(rows);
             clear(output);
-            NO_EDITION
+            Reading::from(NO_EDITION)
         }
     }
 }

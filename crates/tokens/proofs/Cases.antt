@@ -7,7 +7,7 @@ use lib.ListN.{length, get_or}
 use borrow.Author.Tests.{le-leb, lt-leb, lt-ltb, le-ltb}
 use Rattle.format.specs.Outcome.{Outcome, Parsed, fault, done, ◌>>=◌, ◌>>◌, guard}
 use Rattle.format.specs.Limits.{limit, id_limit}
-use Rattle.format.specs.Refusals.{ends_too_early, not_allowed, wrong_content, no_row_left}
+use Rattle.format.specs.Refusals.{ends_too_early, wrong_content, no_row_left}
 use Rattle.format.specs.Marks.{is_integer, width, 'S', 'E'}
 use Rattle.format.specs.Tokens as Tokens
 use Rattle.format.specs.Tokens.{Kind, Forest, alone, uncounted}
@@ -41,10 +41,6 @@ unfoldable pub after : Kind → ℕ → ℕ → ℕ → ℕ → Outcome ℕ → 
 after kind mark at start n end = end >>= (λ next. done (alone (uncounted kind mark at start n), next))
 
 module _ (m : List ℕ) (lent at row : ℕ) where
-  pub scalar_no_row : (mark start : ℕ) → lent ≤ row → scalar m lent mark start at row ≡ fault no_row_left at
-  unfolding scalar row_left guard ◌>>◌
-  scalar_no_row mark start h = rw (le-ltb _ _ h)
-
   pub scalar-row : (mark start : ℕ) → row < lent → scalar m lent mark start at row ≡ after Tokens.scalar mark at start (width mark) (payload_end m mark start (width mark))
   unfolding scalar row_left guard ◌>>◌ after
   scalar-row mark start h = rw (lt-ltb _ _ h)
@@ -57,38 +53,13 @@ module _ (m : List ℕ) (lent at row : ℕ) where
   unfolding unmarked byte guard ◌>>◌ ◌>>=◌
   unmarked_there mark h = rw (lt-ltb _ _ h)
 
-  pub text_no_row : (kind : Kind) (mark : ℕ) → lent ≤ row → text m lent kind mark at row ≡ fault no_row_left at
-  unfolding text row_left guard ◌>>◌
-  text_no_row kind mark h = rw (le-ltb _ _ h)
-
-  -- the length is refused, or read
-  pub text_length : (kind : Kind) (mark x y : ℕ) → row < lent → integer m (at + 1) ≡ fault x y → text m lent kind mark at row ≡ fault x y
-  unfolding text row_left guard ◌>>◌ ◌>>=◌
-  text_length kind mark x y h e = rw (lt-ltb _ _ h, e)
-
   pub text_there_lem : (kind : Kind) (mark n start : ℕ) → row < lent → integer m (at + 1) ≡ done (n, start)
       → text m lent kind mark at row ≡ after kind mark at start n (payload_end m mark start n)
   unfolding text row_left guard ◌>>◌ ◌>>=◌ after
   text_there_lem kind mark n start h e = rw (lt-ltb _ _ h, e)
 
-  pub key_early : length m ≤ at → key m lent at row ≡ fault ends_too_early (length m)
-  unfolding key one_of byte guard ◌>>◌ ◌>>=◌
-  key_early h = rw (le-ltb _ _ h)
-
   module _ (there : at < length m) where
-    pub key_other : is_integer (get_or m at 0) ≡ false → key m lent at row ≡ fault not_allowed at
-    unfolding key one_of byte guard ◌>>◌ ◌>>=◌
-    key_other e = rw (lt-ltb _ _ there, e)
-
     module _ (marked : is_integer (get_or m at 0) ≡ true) where
-      pub key_no_row : lent ≤ row → key m lent at row ≡ fault no_row_left at
-      unfolding key one_of byte row_left guard ◌>>◌ ◌>>=◌
-      key_no_row h = rw (lt-ltb _ _ there, marked, le-ltb _ _ h)
-
-      pub key_length : (x y : ℕ) → row < lent → number m limit (get_or m at 0) at (at + 1) ≡ fault x y → key m lent at row ≡ fault x y
-      unfolding key one_of byte row_left guard ◌>>◌ ◌>>=◌
-      key_length x y h e = rw (lt-ltb _ _ there, marked, lt-ltb _ _ h, e)
-
       pub key_there : (n start : ℕ) → row < lent → number m limit (get_or m at 0) at (at + 1) ≡ done (n, start)
           → key m lent at row ≡ after Tokens.key 'S' at start n (payload_end m 'S' start n)
       unfolding key one_of byte row_left guard ◌>>◌ ◌>>=◌ after

@@ -3,18 +3,16 @@ use Prim.Native.Nat.{ℕ, suc, ◌+◌, ◌≤◌}
 use mathlib.Core.Path.{◌≡◌, refl, ◌∙◌}
 use mathlib.Core.List.{List, append-nil}
 use native.Mathlib.Omega.{arith}
-use Rattle.format.specs.Outcome.{Outcome, Parsed, done, ◌>>=◌}
-use Rattle.format.specs.Tokens.{Kind, Token, Forest, none, node, alone, uncounted, size, members}
+use Rattle.format.specs.Outcome.{Parsed, done}
+use Rattle.format.specs.Tokens.{Token, Forest, none, node, alone, size, members}
 use Rattle.format.specs.Rows.{Ancestry, held_by, row_of, rows}
 use Rattle.rows.specs.Row.{store}
 use Rattle.rows.specs.Overlay.{lay}
 use Rattle.rows.proofs.Overlay.{lay_front}
-use Rattle.tokens.specs.Answers.{Laid, Within, placed, ended}
-use Rattle.tokens.specs.declared.Step.{Step}
-use Rattle.tokens.specs.declared.Step.TheVariants.{Fault, Next}
-use Rattle.tokens.specs.declared.scalars.Place.{Place}
-use Rattle.tokens.specs.declared.scalars.Place.TheVariants.{At, Refused}
-use Rattle.tokens.proofs.Cases.{after}
+use Rattle.std.specs.Prelude.{Result, Ok, Err}
+use Rattle.format.specs.declared.refusals.Refused.{Refused}
+use Rattle.tokens.specs.Answers.{Laid, Within}
+use Rattle.tokens.specs.declared.End.{End}
 
 -- a token with nothing below it
 pub laid_alone : (t : Token) (row next : ℕ) (ancestry : Ancestry) (before now : List ℕ) → now ≡ store before row (row_of t (row + 1) ancestry)
@@ -24,17 +22,10 @@ laid_alone t row next ancestry before now e =
     let q : suc row + 0 ≡ row + 1 = omega arith in
     record { forest = alone t; read = refl; counted = refl; took = omega arith; lie = rw q e }
 
--- a token that is defined by its payload's end, where that is known
-pub ended_is : (end : Place) (kind : Kind) (mark at start n : ℕ) (p : Outcome ℕ) → placed end ≡ p
-    → after kind mark at start n p ≡ ended end (uncounted kind mark at start n)
-unfolding after ◌>>=◌
-ended_is (At next) kind mark at start n p e = rw (← e)
-ended_is (Refused x y) kind mark at start n p e = rw (← e)
-
 -- what ends from a place on ends from every place before it on
-pub within_from : (r : Step) (low low' high rows_lent : ℕ) → low' ≤ low → Within r low high rows_lent → Within r low' high rows_lent
-within_from (Fault n p) low low' high rows_lent h w = tt
-within_from (Next next row) low low' high rows_lent h w = omega arith
+pub within_from : (r : Result End Refused) (low low' high rows_lent : ℕ) → low' ≤ low → Within r low high rows_lent → Within r low' high rows_lent
+within_from (Err r) low low' high rows_lent h w = tt
+within_from (Ok e) low low' high rows_lent h w = omega arith
 
 -- a token over those below it, whose rows were stored before its own
 pub laid_over : (t : Token) (o : Parsed Forest) (row k next row' end : ℕ) (ancestry : Ancestry) (before mid now : List ℕ) (l : Laid o (row + 1) k (held_by row ancestry) before mid next row')

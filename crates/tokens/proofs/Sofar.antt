@@ -12,8 +12,9 @@ use Rattle.format.proofs.Forests.{append_none, ⊕-assoc, size_append, members_a
 use Rattle.rows.specs.Overlay.{lay}
 use Rattle.rows.proofs.Overlay.{lay_append}
 use Rattle.tokens.specs.Answers.{onto, Laid, Meets}
-use Rattle.tokens.specs.declared.Step.{Step}
-use Rattle.tokens.specs.declared.Step.TheVariants.{Fault, Next}
+use Rattle.std.specs.Prelude.{Result, Ok, Err}
+use Rattle.format.specs.declared.refusals.Refused.{Refused}
+use Rattle.tokens.specs.declared.End.{End}
 
 -- the rows of one forest and then those of another
 pub lay_forest : (ws : List ℕ) (row : ℕ) (a : Ancestry) (f g : Forest)
@@ -113,9 +114,9 @@ pub laid_onto : {a b : Parsed Forest} {row j k next row' end row'' : ℕ} {ances
 laid_onto l h = laid_after l.forest l.counted l.took l.lie h
 
 -- two readers one after another, where the first has read
-pub seq_meets : (r : Step) (item rest : Reader) (at row j next row' k : ℕ) (ancestry : Ancestry) (before mid after : List ℕ) → Laid (item at row) row j ancestry before mid next row'
+pub seq_meets : (r : Result End Refused) (item rest : Reader) (at row j next row' k : ℕ) (ancestry : Ancestry) (before mid after : List ℕ) → Laid (item at row) row j ancestry before mid next row'
     → Meets r (rest next row') row' k ancestry mid after → Meets r ((item ⨾ rest) at row) row (j + k) ancestry before after
-seq_meets (Fault n p) item rest at row j next row' k ancestry before mid after l e =
-    seq_read item rest at row next l.forest l.read ∙ rw (← l.took) (onto-fault l.forest _ n p e)
-seq_meets (Next end row'') item rest at row j next row' k ancestry before mid after l h =
+seq_meets (Err r) item rest at row j next row' k ancestry before mid after l e =
+    seq_read item rest at row next l.forest l.read ∙ rw (← l.took) (onto-fault l.forest _ _ _ e)
+seq_meets (Ok e) item rest at row j next row' k ancestry before mid after l h =
     rw (seq_read item rest at row next l.forest l.read, ← l.took) (laid_onto l h)

@@ -1,17 +1,15 @@
 -- How the core's answers stand to the outcomes of the definitions, and to the lent words.
-use Rattle.std.specs.Prelude.{ℕ, ◌+◌, ◌^◌, ◌≤◌, ◌<◌, ◌≡◌, List, length}
-use Rattle.format.specs.Outcome.{Outcome, Parsed, fault, done, ◌>>=◌}
+use Rattle.std.specs.Prelude.{ℕ, ◌+◌, ◌^◌, ◌≤◌, ◌<◌, ◌≡◌, List, length, Result, Ok, Err}
+use Rattle.format.specs.Outcome.{Parsed, done, ◌>>=◌}
 use Rattle.format.specs.Limits.{limit}
 use Rattle.format.specs.Tokens as Tokens
 use Rattle.format.specs.Tokens.{Forest, alone, size, ◌⊕◌, members}
 use Rattle.format.specs.Rows.{Ancestry, rows}
-use Rattle.format.specs.Answers.{kind_of}
+use Rattle.format.specs.Answers.{refused, kind_of}
 use Rattle.rows.specs.Overlay.{lay}
 use Rattle.tokens.specs.declared.entry.Entry.{Entry}
-use Rattle.tokens.specs.declared.scalars.Place.{Place}
-use Rattle.tokens.specs.declared.scalars.Place.TheVariants.{At, Refused}
-use Rattle.tokens.specs.declared.Step.{Step}
-use Rattle.tokens.specs.declared.Step.TheVariants.{Fault, Next}
+use Rattle.format.specs.declared.refusals.Refused.{Refused}
+use Rattle.tokens.specs.declared.End.{End}
 
 -- ---- a token's row
 
@@ -37,19 +35,10 @@ pub record Narrow (e : Entry) (link : ℕ) : Type 0 where
 
 -- ---- the place after a payload
 
-abbrev pub placed : Place → Outcome ℕ
-placed (At end) = done end
-placed (Refused n p) = fault n p
-
 -- it lies between
-abbrev pub PlaceWithin : Place → ℕ → ℕ → Type 0
-PlaceWithin (At end) low high = (low ≤ end) × (end ≤ high)
-PlaceWithin (Refused n p) low high = Unit {0}
-
--- a token with nothing below it, given the place after its payload
-abbrev pub ended : Place → Tokens.Token → Parsed Forest
-ended (At end) t = done (alone t, end)
-ended (Refused n p) t = fault n p
+abbrev pub PlaceWithin : Result ℕ Refused → ℕ → ℕ → Type 0
+PlaceWithin (Ok end) low high = (low ≤ end) × (end ≤ high)
+PlaceWithin (Err r) low high = Unit {0}
 
 -- ---- what was read
 
@@ -66,9 +55,9 @@ unfoldable pub onto : Forest → Parsed Forest → Parsed Forest
 onto f o = o >>= (λ r. done (f ⊕ r.0, r.1))
 
 -- the answer to a reader that gives k members: its refusal, whatever the words then hold; or what was read
-abbrev pub Meets : Step → Parsed Forest → ℕ → ℕ → Ancestry → List ℕ → List ℕ → Type 0
-Meets (Fault n p) o row k ancestry before after = o ≡ fault n p
-Meets (Next next row') o row k ancestry before after = Laid o row k ancestry before after next row'
+abbrev pub Meets : Result End Refused → Parsed Forest → ℕ → ℕ → Ancestry → List ℕ → List ℕ → Type 0
+Meets (Err r) o row k ancestry before after = o ≡ refused r
+Meets (Ok e) o row k ancestry before after = Laid o row k ancestry before after e.at e.row
 
 -- ---- places and rows
 
@@ -86,6 +75,6 @@ pub record Ends (low high rows_lent next row : ℕ) : Type 0 where
   pub row_lent : row ≤ rows_lent
   pub row_byte : row ≤ next
 
-abbrev pub Within : Step → ℕ → ℕ → ℕ → Type 0
-Within (Fault n p) low high rows_lent = Unit {0}
-Within (Next next row) low high rows_lent = Ends low high rows_lent next row
+abbrev pub Within : Result End Refused → ℕ → ℕ → ℕ → Type 0
+Within (Err r) low high rows_lent = Unit {0}
+Within (Ok e) low high rows_lent = Ends low high rows_lent e.at e.row

@@ -5,9 +5,17 @@
 pub mod entry;
 pub mod scalars;
 
-// A refusal's number and place; or the place after what was read, and the row after its rows.
+// Where what was read ends: the place after it, and the row after its rows.
 #[derive(Clone, Copy)]
-pub enum Step {
-    Fault(u32, usize),
-    Next(usize, usize),
+pub struct End {
+    pub at: usize,
+    pub row: usize,
+}
+
+// Where members end: the place after them, the row after theirs, and how many they are.
+#[derive(Clone, Copy)]
+pub struct Members {
+    pub at: usize,
+    pub row: usize,
+    pub count: usize,
 }

@@ -5,6 +5,7 @@ use mathlib.Core.Bool.{false}
 use mathlib.Core.List.{List}
 use lib.ListN.{length, get_or}
 use borrow.Author.Tests.{le-leb, lt-leb, le-ltb, lt-ltb, eq-eqb, ne_eqb}
+use Rattle.std.specs.Prelude.{Option}
 use Rattle.format.specs.Outcome.{fault, done, ◌>>=◌, ◌>>◌, guard}
 use Rattle.format.specs.Limits.{limit, record_limit}
 use Rattle.format.specs.Refusals.{ends_too_early, not_allowed, over_limit}
@@ -19,15 +20,10 @@ use Rattle.format.specs.Dimensions.{Shape, shape}
 use Rattle.format.specs.Schemas.{table_schema}
 use Rattle.format.specs.Containers.{stored, table}
 use Rattle.contents.specs.Answers.{checked_of}
-use Rattle.contents.specs.declared.Checked.{Checked}
 use Rattle.typed.specs.Stored.{checked}
 use Rattle.typed.proofs.PackedCases.{then_checked}
 
 module _ (m : List ℕ) (lent : ℕ) (o : Opening) (at row : ℕ) where
-  pub table-fault : (n p : ℕ) → table_schema m lent (at + 2) (row + 1) ≡ fault n p → table m lent o at row ≡ fault n p
-  unfolding table ◌>>=◌
-  table-fault n p e = rw e
-
   module _ (s : Forest) (from : ℕ) (read : table_schema m lent (at + 2) (row + 1) ≡ done (s, from)) where
     pub table_early : length m ≤ from → table m lent o at row ≡ fault ends_too_early (length m)
     unfolding table one_of byte guard ◌>>=◌ ◌>>◌
@@ -39,10 +35,6 @@ module _ (m : List ℕ) (lent : ℕ) (o : Opening) (at row : ℕ) where
       table_other e = rw (read, lt-ltb _ _ there, ne_eqb _ _ e)
 
       module _ (hash : '#' ≡ get_or m from 0) where
-        pub table-shape-fault : (n p : ℕ) → shape m lent false (from + 1) (row + 1 + size s) ≡ fault n p → table m lent o at row ≡ fault n p
-        unfolding table one_of byte guard ◌>>=◌ ◌>>◌
-        table-shape-fault n p e = rw (read, lt-ltb _ _ there, eq-eqb _ _ hash, e)
-
         module _ (n : Shape) (start : ℕ) (told : shape m lent false (from + 1) (row + 1 + size s) ≡ done (n, start)) where
           pub table_over : limit < n.many → table m lent o at row ≡ fault over_limit at
           unfolding table one_of byte guard ◌>>=◌ ◌>>◌
@@ -65,7 +57,7 @@ module _ (m : List ℕ) (lent : ℕ) (o : Opening) (at row : ℕ) where
               unfolding table one_of byte reach guard ◌>>=◌ ◌>>◌
               to_contents h = rw (read, lt-ltb _ _ there, eq-eqb _ _ hash, told, le-leb _ _ few, le-leb _ _ narrow, le-leb _ _ h)
 
-              pub table_there : (content : Checked) → start + n.many * total_width s ≤ length m
+              pub table_there : (content : Option ℕ) → start + n.many * total_width s ≤ length m
                   → checked_of content ≡ contents m start (records o (member_row row) (below_first s) (below n.many))
                   → table m lent o at row
                   ≡ checked content (stored kind_of_table (opens o) at start (n.many * total_width s) n (placed 0 s ⊕ n.dimensions), start + n.many * total_width s)

@@ -9,8 +9,9 @@ use crate::packed::packed;
 use crate::table::table;
 use crate::types::{ContainerType, type_at};
 use containers::pairs::typed_object;
+use format::refusals::Refused;
 use rows::Ancestry;
-use tokens::Step;
+use tokens::End;
 
 // The container at `at`, whose opening mark is followed by `$`.
 pub fn typed(
@@ -21,13 +22,13 @@ pub fn typed(
     at: usize,
     row: usize,
     ancestry: Ancestry,
-) -> Step
+) -> Result<End, Refused>
     requires { Here message.now lent at row × (at + 1 < length message.now) × (row < lent) × (ancestry.depth ≤ at) }
     ensures meets { Meets result (typed_there message.now lent (opening_of brace) at row) row 1 (ancestry_of ancestry) rows.old rows.new }
     ensures bounds { Within result (at + 1) (length message.now) lent }
 {
-    match type_at(message, at) {
-        ContainerType::Fault(n, p) => Step::Fault(n, p),
+    let kind = type_at(message, at)?;
+    match kind {
         ContainerType::Schema => table(message, rows, lent, brace, at, row, ancestry),
         ContainerType::Of(mark) => {
             let from = at + 4;

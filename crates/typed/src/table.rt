@@ -5,6 +5,7 @@ ghost use Rattle.format.specs.Containers.{table as table_at};
 ghost use Rattle.format.specs.Rows.{held_by};
 ghost use Rattle.rows.specs.Row.{ancestry_of};
 ghost use Rattle.tokens.specs.Answers.{Meets, Here, Within};
+ghost use Rattle.shapes.specs.Answers.{order_number};
 ghost use Rattle.typed.specs.Tables.{HeaderRead, HeaderWithin};
 
 use crate::packed::store_row;
@@ -12,55 +13,54 @@ use contents::tables::table_contents;
 use format::answers::Kind;
 use format::limits::{LIMIT, RECORD_LIMIT};
 use format::marks::{Mark, opening_mark};
-use kinds::Kinds;
+use format::refusals::{Refusal, Refused};
 use rows::{Ancestry, held_by};
 use schemas::groups::table_schema;
 use shapes::counts::{Shaped, shape};
-use tokens::Step;
+use tokens::End;
 use tokens::entry::Entry;
 
-// The table at `at`, once its schema, of `wide` bytes, and its count are read: `link` is the row after those of both.
+// The table at `at`, once its schema, of `wide` bytes, and its count are read.
 fn table_payload(
     message: &[u8],
     rows: &mut [u32],
     brace: bool,
     wide: usize,
-    start: usize,
-    link: usize,
-    many: usize,
-    order: u32,
+    count: Shaped,
     at: usize,
     row: usize,
     ancestry: Ancestry,
-) -> Step
-    requires { HeaderWithin message.now wide start link many at row }
-    ensures meets { (lent : ℕ) (before : List ℕ) → HeaderRead message.now lent at row (held_by row (ancestry_of ancestry)) before rows.old wide start link many order
+) -> Result<End, Refused>
+    requires { HeaderWithin message.now wide count.at count.row count.many at row }
+    ensures meets { (lent : ℕ) (before : List ℕ) → HeaderRead message.now lent at row (held_by row (ancestry_of ancestry)) before rows.old wide count.at count.row count.many (order_number count.order)
         → Meets result (table_at message.now lent (opening_of brace) at row) row 1 (ancestry_of ancestry) before rows.new }
-    ensures bounds { (lent : ℕ) → link ≤ lent → Within result (at + 1) (length message.now) lent }
+    ensures bounds { (lent : ℕ) → count.row ≤ lent → Within result (at + 1) (length message.now) lent }
 {
+    let many = count.many;
     if (LIMIT as usize) < many {
-        return Step::Fault(5, at);
+        return Err(Refused(Refusal::OverLimit, at));
     }
     if RECORD_LIMIT < wide {
-        return Step::Fault(5, at);
+        return Err(Refused(Refusal::OverLimit, at));
     }
+    let start = count.at;
     let end = message.len();
     let extent = many * wide;
     if end - start < extent {
-        return Step::Fault(2, end);
+        return Err(Refused(Refusal::EndsTooEarly, end));
     }
     let content = table_contents(message, brace, at + 2, wide, many, start);
     let mark = opening_mark(brace);
     let e = Entry {
         kind: Kind::Table,
-        mark: mark,
+        mark,
         first: at,
         payload: start,
-        extent: extent,
+        extent,
         count: many,
-        order: order,
+        order: count.order.number(),
     };
-    store_row(rows, row, e, link, content, ancestry)
+    store_row(rows, row, e, count.row, content, ancestry)
 }
 
 // The table at `at`.
@@ -72,34 +72,31 @@ pub fn table(
     at: usize,
     row: usize,
     ancestry: Ancestry,
-) -> Step
+) -> Result<End, Refused>
     requires { Here message.now lent at row × (at + 2 < length message.now) × (row < lent) × (ancestry.depth ≤ at) }
     ensures meets { Meets result (table_at message.now lent (opening_of brace) at row) row 1 (ancestry_of ancestry) rows.old rows.new }
     ensures bounds { Within result (at + 1) (length message.now) lent }
 {
     let below = row + 1;
     let children = held_by(row, ancestry);
-    match table_schema(message, rows, lent, at + 2, below, children) {
-        Kinds::Fault(n, p) => Step::Fault(n, p),
-        Kinds::Next(from, after, wide) => {
-            let end = message.len();
-            if end <= from {
-                return Step::Fault(2, end);
-            }
-            if message[from] != Mark::COUNT {
-                return Step::Fault(3, from);
-            }
-            match shape(message, rows, lent, false, from + 1, after, children) {
-                Shaped::Refused(n, p) => Step::Fault(n, p),
-                Shaped::Shape {
-                    next,
-                    row: link,
-                    many,
-                    order,
-                } => table_payload(
-                    message, rows, brace, wide, next, link, many, order, at, row, ancestry,
-                ),
-            }
-        }
+    let schema = table_schema(message, rows, lent, at + 2, below, children)?;
+    let from = schema.at;
+    let end = message.len();
+    if end <= from {
+        return Err(Refused(Refusal::EndsTooEarly, end));
     }
+    if message[from] != Mark::COUNT {
+        return Err(Refused(Refusal::NotAllowed, from));
+    }
+    let count = shape(message, rows, lent, false, from + 1, schema.row, children)?;
+    table_payload(
+        message,
+        rows,
+        brace,
+        schema.offset,
+        count,
+        at,
+        row,
+        ancestry,
+    )
 }

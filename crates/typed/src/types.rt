@@ -3,17 +3,17 @@ ghost use Rattle.std.specs.Prelude.{◌+◌, ◌<◌, length};
 ghost use Rattle.typed.specs.Types.{TypeMeets, TypeWithin};
 
 use format::marks::Mark;
+use format::refusals::{Refusal, Refused};
 
-// A refusal's number and place; a schema; or a type's mark.
+// What follows `$`: a schema, or a type's mark.
 #[derive(Clone, Copy)]
 pub enum ContainerType {
-    Fault(u32, usize),
     Schema,
     Of(u8),
 }
 
 // The type of the container at `at`.
-pub fn type_at(message: &[u8], at: usize) -> ContainerType
+pub fn type_at(message: &[u8], at: usize) -> Result<ContainerType, Refused>
     requires { at + 1 < length message.now }
     ensures meets { TypeMeets result message.now at }
     ensures bounds { TypeWithin result at (length message.now) }
@@ -21,21 +21,21 @@ pub fn type_at(message: &[u8], at: usize) -> ContainerType
     let end = message.len();
     let place = at + 2;
     if end <= place {
-        return ContainerType::Fault(2, end);
+        return Err(Refused(Refusal::EndsTooEarly, end));
     }
     let mark = message[place];
     if mark == Mark::OBJECT {
-        return ContainerType::Schema;
+        return Ok(ContainerType::Schema);
     }
     if !Mark(mark).is_type() {
-        return ContainerType::Fault(3, place);
+        return Err(Refused(Refusal::NotAllowed, place));
     }
     let after = at + 3;
     if end <= after {
-        return ContainerType::Fault(2, end);
+        return Err(Refused(Refusal::EndsTooEarly, end));
     }
     if message[after] != Mark::COUNT {
-        return ContainerType::Fault(3, after);
+        return Err(Refused(Refusal::NotAllowed, after));
     }
-    ContainerType::Of(mark)
+    Ok(ContainerType::Of(mark))
 }

@@ -76,13 +76,6 @@ module _ (ws : List ℕ) (fits : Row → Bool) (stop row : ℕ) where
       go o (follows {next = n} f) e = let q : n ≡ next = cc in subst Followed q f
       go o stuck e = let z : ◌≡◌ {A = ℕ} 0 1 = cc in absurd (omega arith)
 
-  pub refused : (n : ℕ) → along ws fits stop row ≡ fault n 0 → n ≡ rows_dont_fit
-  refused n e = go (along ws fits stop row) walked e
-    where
-      go : (o : Outcome ℕ) → Walked o → o ≡ fault n 0 → n ≡ rows_dont_fit
-      go o (follows f) e = let z : ◌≡◌ {A = ℕ} 0 1 = cc in absurd (omega arith)
-      go o stuck e = cc
-
 -- a row that names another parent, or this one; past the rows, whatever was read
 module _ (ws : List ℕ) (container : ℕ) (fits : Row → Bool) (stop row : ℕ) (inside : stop ≤ rows_in ws) (r : Row) (read : row < rows_in ws → r ≡ row_at ws row) where
   pub along_other : (r.parent ≡ container + 1 → ⊥) → fault rows_dont_fit 0 ≡ along ws (child_of container fits) stop row

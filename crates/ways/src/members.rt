@@ -4,101 +4,78 @@ ghost use Rattle.format.specs.Rows.{row_at, rows_in};
 ghost use Rattle.format.specs.Addresses.{seek as seek_in};
 ghost use Rattle.format.specs.Answers.{found};
 ghost use Rattle.rows.specs.Row.{row_of};
-ghost use Rattle.ways.specs.Members.{member_from, outermost_of, Passes, Steps, AreRows};
+ghost use Rattle.ways.specs.Members.{member_from, Passes, Steps, AreRows};
 
 use crate::links::along_child;
-use crate::needs::{Need, fits};
-use format::answers::Found;
+use crate::needs::Need;
+use format::refusals::Refusal;
 use rows::{Row, load};
 
-// One member further: a refusal's number; the leaf's row; the member that holds it; or the row after a member that doesn't.
+// One member further: the leaf's row; the member that holds it; or the row after a member that doesn't.
 #[derive(Clone, Copy)]
 pub enum Step {
-    Refused(u32),
     Leaf(usize),
     Inside(usize),
     Next(usize),
 }
 
 // The member of a container from a row on: in a schema it stands where its key's link leads.
-fn member(rows: &[u32], container: usize, c: Row, row: usize) -> Found
+fn member(rows: &[u32], container: usize, c: Row, row: usize) -> Result<usize, Refusal>
     requires { (row_of c).link ≤ rows_in rows.now }
     ensures { found result ≡ member_from rows.now container (row_of c) row }
 {
-    if fits(Need::Schema, c) {
-        let stop = c.link as usize;
-        return along_child(rows, container, Need::Key, stop, row);
+    if Need::Schema.fits(c) {
+        along_child(rows, container, Need::Key, c.link as usize, row)
+    } else {
+        Ok(row)
     }
-    Found::Row(row)
 }
 
 // Whether this member is the leaf or holds it.
-fn pass(rows: &[u32], leaf: usize, container: usize, c: Row, here: usize) -> Step
+fn pass(rows: &[u32], leaf: usize, container: usize, c: Row, here: usize) -> Result<Step, Refusal>
     requires { (row_of c).link ≤ rows_in rows.now }
     ensures { Passes rows.now leaf container (row_of c) here result }
 {
-    let stop = c.link as usize;
-    match along_child(rows, container, Need::Member, stop, here) {
-        Found::Refused(number) => Step::Refused(number),
-        Found::Row(next) => {
-            if leaf < here {
-                return Step::Next(next);
-            }
-            if next <= leaf {
-                return Step::Next(next);
-            }
-            let is_leaf = fits(Need::Leaf, load(rows, here));
-            if leaf == here {
-                if is_leaf {
-                    return Step::Leaf(here);
-                }
-                return Step::Refused(12);
-            }
-            if is_leaf {
-                return Step::Refused(12);
-            }
-            Step::Inside(here)
-        }
+    let next = along_child(rows, container, Need::Member, c.link as usize, here)?;
+    if leaf < here || next <= leaf {
+        return Ok(Step::Next(next));
+    }
+    let found = leaf == here;
+    if Need::Leaf.fits(load(rows, here)) != found {
+        return Err(Refusal::RowsDontFit);
+    }
+    if found {
+        Ok(Step::Leaf(here))
+    } else {
+        Ok(Step::Inside(here))
     }
 }
 
 // One member further in a container.
-fn advance(rows: &[u32], leaf: usize, container: usize, row: usize) -> Step
+fn advance(rows: &[u32], leaf: usize, container: usize, row: usize) -> Result<Step, Refusal>
     requires { (container < rows_in rows.now) × ((row_at rows.now container).link ≤ rows_in rows.now) }
     ensures { Steps rows.now leaf container row result }
 {
     let c = load(rows, container);
-    match member(rows, container, c, row) {
-        Found::Refused(number) => Step::Refused(number),
-        Found::Row(here) => pass(rows, leaf, container, c, here),
-    }
-}
-
-// The member of the schema itself: the first that was gone into, where 0 is none yet, else the one that stands here.
-fn outermost(top: usize, here: usize) -> usize
-    ensures { result ≡ outermost_of top here }
-{
-    if top == 0 {
-        return here;
-    }
-    top
+    let here = member(rows, container, c, row)?;
+    pass(rows, leaf, container, c, here)
 }
 
 // The field of a schema, from a row on, that is the leaf or holds it.
-pub fn field(rows: &[u32], leaf: usize, schema: usize, from: usize) -> Found
-    requires { (schema < rows_in rows.now) × ((row_at rows.now schema).link ≤ rows_in rows.now) × (0 < from) }
+pub fn field(rows: &[u32], leaf: usize, schema: usize, from: usize) -> Result<usize, Refusal>
+    requires { (schema < rows_in rows.now) × ((row_at rows.now schema).link ≤ rows_in rows.now) }
     ensures is { found result ≡ seek_in rows.now leaf (length rows.now) schema from }
     ensures bounds { AreRows rows.now leaf result }
 {
     let mut container = schema;
     let mut row = from;
-    let mut top = 0;
+    // The member of the schema itself, once one was gone into.
+    let mut top = None;
     loop {
-        match advance(rows, leaf, container, row) {
-            Step::Refused(number) => return Found::Refused(number),
-            Step::Leaf(here) => return Found::Row(outermost(top, here)),
+        match advance(rows, leaf, container, row)? {
+            Step::Leaf(here) => return Ok(top.unwrap_or(here)),
             Step::Inside(here) => {
-                top = outermost(top, here);
+                top = top.or(Some(here));
                 container = here;
                 row = here + 1;
             }

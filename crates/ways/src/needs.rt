@@ -1,13 +1,9 @@
 // What an address or a name needs of a row on its way: the kind, a mark and an order that the reader gives to a row in its place.
-ghost use Rattle.std.specs.Prelude.{◌≡◌, ◌&&◌, leb, eqb, [], ◌∷◌};
-ghost use Rattle.format.specs.Conditions.{among};
-ghost use Rattle.format.specs.Marks.{'[', left_brace};
+ghost use Rattle.std.specs.Prelude.{◌≡◌, ◌&&◌, leb, eqb};
 ghost use Rattle.format.specs.Tokens.{kind_number};
 ghost use Rattle.format.specs.Answers.{kind_of};
-ghost use Rattle.format.specs.Addresses as Addresses;
-ghost use Rattle.format.specs.Lookup.{has_names};
 ghost use Rattle.rows.specs.Row.{row_of};
-ghost use Rattle.ways.specs.Needs.{fits_of};
+ghost use Rattle.ways.specs.Needs.{in_place, fits_of};
 
 use format::answers::Kind;
 use format::marks::Mark;
@@ -22,130 +18,59 @@ pub enum Need {
     Leaf,
     Schema,
     Fixed,
+    // A leaf, a nested schema or a fixed array.
     Member,
     Dimension,
+    // An object or a schema record.
     Named,
     Anything,
 }
 
 // A row of this kind, with such a mark, and an order up to the highest that it may have.
-fn is_a(r: Row, kind: Kind, marked: bool, highest: u32) -> bool
+fn has(r: Row, kind: Kind, marked: bool, highest: u32) -> bool
     ensures { result ≡ (eqb r.kind (kind_number (kind_of kind)) && (marked && leb r.order highest)) }
 {
-    let number = kind.number();
-    if r.kind != number {
-        return false;
+    r.kind == kind.number() && marked && r.order <= highest
+}
+
+// A row of this kind, with a mark and an order that the reader gives to such a row on the way of an address or a name.
+fn is_a(r: Row, kind: Kind) -> bool
+    ensures { result ≡ in_place kind (row_of r) }
+{
+    let mark = Mark::of(r.mark);
+    let bracket = r.mark == Mark::ARRAY as u32;
+    let brace = r.mark == Mark::OBJECT as u32;
+    match kind {
+        Kind::Packed => has(r, kind, mark.is_type(), 2),
+        Kind::Table => has(r, kind, bracket || brace, 1),
+        Kind::Key => has(r, kind, r.mark == Mark::TEXT as u32, 0),
+        Kind::Leaf => has(r, kind, mark.is_leaf(), 0),
+        Kind::Object | Kind::SchemaRecord => has(r, kind, brace, 0),
+        Kind::FixedArray => has(r, kind, bracket, 0),
+        Kind::Dimension => has(r, kind, mark.is_integer(), 0),
+        _ => false,
     }
-    if !marked {
-        return false;
-    }
-    r.order <= highest
 }
 
-// A word that is this letter.
-fn is_letter(word: u32, letter: u8) -> bool
-    ensures { result ≡ eqb letter word }
-{
-    letter as u32 == word
-}
-
-// A word that is a table's mark.
-fn is_layout(word: u32) -> bool
-    ensures { result ≡ among ('[' ∷ left_brace ∷ []) word }
-{
-    if is_letter(word, Mark::ARRAY) {
-        return true;
-    }
-    is_letter(word, Mark::OBJECT)
-}
-
-fn is_packed(r: Row) -> bool
-    ensures { result ≡ Addresses.is_packed (row_of r) }
-{
-    let marked = Mark::of(r.mark).is_type();
-    is_a(r, Kind::Packed, marked, 2)
-}
-
-fn is_table(r: Row) -> bool
-    ensures { result ≡ Addresses.is_table (row_of r) }
-{
-    let marked = is_layout(r.mark);
-    is_a(r, Kind::Table, marked, 1)
-}
-
-pub fn is_key(r: Row) -> bool
-    ensures { result ≡ Addresses.is_key (row_of r) }
-{
-    let marked = is_letter(r.mark, Mark::TEXT);
-    is_a(r, Kind::Key, marked, 0)
-}
-
-pub fn is_leaf(r: Row) -> bool
-    ensures { result ≡ Addresses.is_leaf_row (row_of r) }
-{
-    let marked = Mark::of(r.mark).is_leaf();
-    is_a(r, Kind::Leaf, marked, 0)
-}
-
-pub fn is_schema(r: Row) -> bool
-    ensures { result ≡ Addresses.is_schema (row_of r) }
-{
-    let marked = is_letter(r.mark, Mark::OBJECT);
-    is_a(r, Kind::SchemaRecord, marked, 0)
-}
-
-fn is_fixed(r: Row) -> bool
-    ensures { result ≡ Addresses.is_fixed (row_of r) }
-{
-    let marked = is_letter(r.mark, Mark::ARRAY);
-    is_a(r, Kind::FixedArray, marked, 0)
-}
-
-// A leaf, a nested schema or a fixed array.
-fn is_member(r: Row) -> bool
-    ensures { result ≡ Addresses.is_member (row_of r) }
-{
-    if is_leaf(r) {
-        return true;
-    }
-    if is_schema(r) {
-        return true;
-    }
-    is_fixed(r)
-}
-
-fn is_dimension(r: Row) -> bool
-    ensures { result ≡ Addresses.is_dimension (row_of r) }
-{
-    let marked = Mark::of(r.mark).is_integer();
-    is_a(r, Kind::Dimension, marked, 0)
-}
-
-// An object or a schema record.
-fn has_names(r: Row) -> bool
-    ensures { result ≡ has_names (row_of r) }
-{
-    let marked = is_letter(r.mark, Mark::OBJECT);
-    if is_a(r, Kind::Object, marked, 0) {
-        return true;
-    }
-    is_schema(r)
-}
-
-// Whether the row is what is needed.
-pub fn fits(need: Need, r: Row) -> bool
-    ensures { result ≡ fits_of need (row_of r) }
-{
-    match need {
-        Need::Packed => is_packed(r),
-        Need::Table => is_table(r),
-        Need::Key => is_key(r),
-        Need::Leaf => is_leaf(r),
-        Need::Schema => is_schema(r),
-        Need::Fixed => is_fixed(r),
-        Need::Member => is_member(r),
-        Need::Dimension => is_dimension(r),
-        Need::Named => has_names(r),
-        Need::Anything => true,
+impl Need {
+    // Whether the row is what is needed.
+    #[tactic(auto, unfolding(format::specs::Addresses::is_member, format::specs::Lookup::has_names))]
+    pub fn fits(self, r: Row) -> bool
+        ensures { result ≡ fits_of self (row_of r) }
+    {
+        match self {
+            Need::Packed => is_a(r, Kind::Packed),
+            Need::Table => is_a(r, Kind::Table),
+            Need::Key => is_a(r, Kind::Key),
+            Need::Leaf => is_a(r, Kind::Leaf),
+            Need::Schema => is_a(r, Kind::SchemaRecord),
+            Need::Fixed => is_a(r, Kind::FixedArray),
+            Need::Member => {
+                is_a(r, Kind::Leaf) || (is_a(r, Kind::SchemaRecord) || is_a(r, Kind::FixedArray))
+            }
+            Need::Dimension => is_a(r, Kind::Dimension),
+            Need::Named => is_a(r, Kind::Object) || is_a(r, Kind::SchemaRecord),
+            Need::Anything => true,
+        }
     }
 }

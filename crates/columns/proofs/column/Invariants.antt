@@ -1,5 +1,5 @@
 -- `column`: the values before the one reached are right. Assumes nothing.
-use Prim.Native.Nat.{ℕ, ◌+◌, ◌*◌, ◌≤◌}
+use Prim.Native.Nat.{ℕ, ◌+◌, ◌-◌, ◌*◌, ◌≤◌}
 use mathlib.Core.Path.{◌≡◌}
 use mathlib.Core.List.{List}
 use lib.ListN.{length}
@@ -11,8 +11,5 @@ pub record Left (m : List ℕ) (mark wide stride count place here left : ℕ) : 
   pub inside : here + wide + left * stride ≤ length m + stride
   pub same : in_column m mark wide stride left here ≡ in_column m mark wide stride count place
 
-abbrev pub invariant-loop-left : goal.invariant-loop-left
-invariant-loop-left l = Fits l.message l.stride l.count (l.place + l.wide) → Left l.message l.mark l.wide l.stride l.count l.place l.here l.left
-
-abbrev pub decreases-loop-left : goal.decreases-loop-left
-decreases-loop-left l = l.left
+abbrev pub invariant-loop-passed : goal.invariant-loop-passed
+invariant-loop-passed l = Fits l.message l.stride l.count (l.place + l.wide) → Left l.message l.mark l.wide l.stride l.count l.place l.here (l.count - l.passed)

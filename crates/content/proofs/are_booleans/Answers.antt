@@ -6,12 +6,12 @@ use Rattle.content.proofs.are_booleans.Goals as goal
 
 pub returns-then-not-is_boolean : goal.returns-then-not-is_boolean
 returns-then-not-is_boolean c =
-    sym (c.loop-i.invariant.1 ∙ all_off _ _ _ c.loop-i-test.true (rw (← c.is_boolean.ensures) c.if-not-is_boolean.true))
+    sym (c.loop-b.invariant ∙ all_off _ c.args.bytes.now c.loop-b.b-index (omega arith) (rw (← c.is_boolean.ensures) c.if-not-is_boolean.true))
 
-pub loop-i-preserved : goal.loop-i-preserved
-loop-i-preserved c =
-    (omega arith, c.loop-i.invariant.1 ∙ all_on _ _ _ c.loop-i-test.true (rw (← c.is_boolean.ensures) c.if-not-is_boolean.false))
+pub loop-b-preserved : goal.loop-b-preserved
+loop-b-preserved c =
+    (c.loop-b.invariant ∙ all_on _ c.args.bytes.now c.loop-b.b-index (omega arith) (rw (← c.is_boolean.ensures) c.if-not-is_boolean.false))
 
 pub returns : goal.returns
 returns c =
-    sym (c.loop-i.invariant.1 ∙ all_end _ _ _ c.loop-i-test.false)
+    sym (c.loop-b.invariant ∙ all_end _ c.args.bytes.now c.loop-b.b-index (omega arith))

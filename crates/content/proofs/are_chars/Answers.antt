@@ -5,10 +5,10 @@ use native.Mathlib.Omega.{arith}
 use Rattle.content.proofs.All.{all_cons, all_end}
 use Rattle.content.proofs.are_chars.Goals as goal
 
-pub loop-i-preserved : goal.loop-i-preserved
-loop-i-preserved c =
-    let v = c.loop-i.invariant in (omega arith, v.1 ∙ rw (all_cons _ _ _ c.loop-i-test.true, and_assoc))
+pub loop-b-preserved : goal.loop-b-preserved
+loop-b-preserved c =
+    let v = c.loop-b.invariant in (v ∙ rw (all_cons _ c.args.bytes.now c.loop-b.b-index (omega arith), and_assoc))
 
 pub returns : goal.returns
 returns c =
-    let v = c.loop-i.invariant in sym (v.1 ∙ rw (all_end _ _ _ c.loop-i-test.false) (and-true _))
+    let v = c.loop-b.invariant in sym (v ∙ rw (all_end _ c.args.bytes.now c.loop-b.b-index (omega arith)) (and-true _))

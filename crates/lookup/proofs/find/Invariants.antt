@@ -1,20 +1,10 @@
--- `find`: a walk over members with a walk over bytes inside. What the definition gives from the key reached on is what it gives from
--- the first; and the bytes passed are equal. Assumes nothing.
-use Prim.Native.Nat.{◌-◌, ◌≤◌}
-use mathlib.Core.Path.{◌≡◌}
-use Rattle.format.specs.declared.answers.Found.TheVariants.{Refused}
-use Rattle.lookup.proofs.Names.{EqualUpTo}
+-- `find`: what the definition gives from the key reached on is what it gives from the first. Assumes nothing.
+use Prim.Native.Nat.{◌-◌}
 use Rattle.lookup.proofs.Walk.{Walk}
 use Rattle.lookup.proofs.find.Given as goal
 
-abbrev pub invariant-bytes : goal.invariant-bytes
-invariant-bytes l = (l.answer ≡ Refused 10) × (l.i ≤ l.wide) × EqualUpTo l.message l.name l.first l.i
+abbrev pub invariant-loop-key : goal.invariant-loop-key
+invariant-loop-key l = Walk l.message l.rows l.name l.stop l.from l.key
 
-abbrev pub decreases-bytes : goal.decreases-bytes
-decreases-bytes l = l.wide - l.i
-
-abbrev pub invariant-members : goal.invariant-members
-invariant-members l = (l.answer ≡ Refused 10) × Walk l.message l.rows l.name l.stop l.from l.key
-
-abbrev pub decreases-members : goal.decreases-members
-decreases-members l = l.stop - l.key
+abbrev pub decreases-loop-key : goal.decreases-loop-key
+decreases-loop-key l = l.stop - l.key

@@ -1,32 +1,30 @@
 -- `member`: the key on the way, its bytes, then its member. Assumes nothing.
-use mathlib.Core.Path.{◌≡◌, sym, ◌∙◌}
+use mathlib.Core.Path.{sym, ◌∙◌}
 use native.Mathlib.Omega.{arith}
-use Rattle.format.specs.Outcome.{done}
-use Rattle.format.specs.Rows.{row_at}
-use Rattle.format.specs.Addresses.{is_key, along}
-use Rattle.rows.specs.Row.{row_of}
+use Rattle.std.proofs.lemmas.Result.{err_from_is_err_and}
 use Rattle.ways.proofs.Along as Along
 use Rattle.lookup.proofs.Walk.{no_key, outside, no_member, the_member}
 use Rattle.lookup.proofs.member.Goals as goal
+use Rattle.lookup.proofs.member.Goals.{then-not-within-via-then-not-within, then-not-within-via-else-not-within+then-stop-next}
+
+pub returns-in_err-next : goal.returns-in_err-next
+returns-in_err-next c =
+    let p = err_from_is_err_and c.from_residual.result c.from_residual.ensures.1 in
+    rw (p.1, p.2) (no_key _ _ _ _ _ (sym (rw c.in_err-next.was at c.along.ensures)))
 
 pub returns-then-not-within : goal.returns-then-not-within
 returns-then-not-within c =
-    let followed : along c.args.rows.now is_key c.args.stop c.args.key ≡ done c.in-Row.next = sym (rw c.in-Row.is at c.along.ensures) in
-    let key_row : row_of c.load-k.result ≡ row_at c.args.rows.now c.args.key = c.load-k.ensures.there (let f = Along.followed _ _ _ _ _ followed in omega (arith, f.before, c.requires)) in
-    outside _ _ _ _ _ (followed) _ (key_row) (sym c.within.ensures ∙ c.if-not-within.true)
+    let followed = sym (rw c.in_ok-next.was at c.along.ensures) in
+    let f = Along.followed _ _ _ _ _ followed in
+    let read = c.load-k.ensures.there (omega (arith, f.before, c.requires)) in
+    elim c.then-not-within.branch [
+      | then-not-within-via-then-not-within w ↦ outside _ _ _ _ _ followed _ read (sym c.within.ensures ∙ w.if-not-within.true)
+      | then-not-within-via-else-not-within+then-stop-next w ↦ no_member _ _ _ _ _ followed _ read (sym c.within.ensures ∙ w.if-not-within.false) w.if-stop-next.true
+    ]
 
-pub returns-then-stop-next : goal.returns-then-stop-next
-returns-then-stop-next c =
-    let followed : along c.args.rows.now is_key c.args.stop c.args.key ≡ done c.in-Row.next = sym (rw c.in-Row.is at c.along.ensures) in
-    let key_row : row_of c.load-k.result ≡ row_at c.args.rows.now c.args.key = c.load-k.ensures.there (let f = Along.followed _ _ _ _ _ followed in omega (arith, f.before, c.requires)) in
-    no_member _ _ _ _ _ (followed) _ (key_row) (sym c.within.ensures ∙ c.if-not-within.false) c.if-stop-next.true
-
-pub returns-in-Refused : goal.returns-in-Refused
-returns-in-Refused c =
-    no_key _ _ _ _ _ (sym (rw c.in-Refused.is at c.along.ensures))
-
-pub returns-else-stop-next : goal.returns-else-stop-next
-returns-else-stop-next c =
-    let followed : along c.args.rows.now is_key c.args.stop c.args.key ≡ done c.in-Row.next = sym (rw c.in-Row.is at c.along.ensures) in
-    let key_row : row_of c.load-k.result ≡ row_at c.args.rows.now c.args.key = c.load-k.ensures.there (let f = Along.followed _ _ _ _ _ followed in omega (arith, f.before, c.requires)) in
-    the_member _ _ _ _ _ (followed) _ (key_row) (sym c.within.ensures ∙ c.if-not-within.false) c.if-stop-next.false
+pub returns : goal.returns
+returns c =
+    let followed = sym (rw c.in_ok-next.was at c.along.ensures) in
+    let f = Along.followed _ _ _ _ _ followed in
+    let read = c.load-k.ensures.there (omega (arith, f.before, c.requires)) in
+    the_member _ _ _ _ _ followed _ read (sym c.within.ensures ∙ c.if-not-within.false) c.if-stop-next.false

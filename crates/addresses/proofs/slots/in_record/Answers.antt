@@ -17,4 +17,4 @@ returns-then-t c =
 pub returns : goal.returns
 unfolding rows_in
 returns c =
-    λ r k. by_columns_at _ _ _ _ _ _ r k _ _ (c.load-t.ensures.there (omega (arith, c.requires.1))) (c.load-o.ensures.there c.requires.2) (omega arith) _ _ _ (c.load-f.ensures.there c.requires.3) c.if-t.false _ (rw (← c.times.ensures) c.plus-column.ensures) c.start-from-2.ensures c.inside-2.ensures
+    λ r k. by_columns_at _ _ _ _ _ _ r k _ _ (c.load-t.ensures.there (omega (arith, c.requires.1))) (c.load-o.ensures.there c.requires.2) (omega arith) _ _ _ (c.load-f.ensures.there c.requires.3) c.if-t.false _ (rw (← c.saturating_mul.ensures) c.saturating_add-column.ensures) c.start-from-2.ensures c.inside-2.ensures

@@ -2,6 +2,7 @@
 use native.Mathlib.Omega.{arith}
 use Rattle.addresses.proofs.SlotCases.{inside_before, inside_past, inside_there}
 use Rattle.addresses.proofs.slots.inside.Goals as goal
+use Rattle.addresses.proofs.slots.inside.Goals.{then-size-first-via-then-size-first, then-size-first-via-else-size-first+then-size-first-2}
 
 pub returns-then-start-back : goal.returns-then-start-back
 returns-then-start-back c =
@@ -9,11 +10,10 @@ returns-then-start-back c =
 
 pub returns-then-size-first : goal.returns-then-size-first
 returns-then-size-first c =
-    λ ws total e. inside_past _ _ _ _ _ _ _ c.requires (omega arith) e c.if-start-back.false (omega arith)
-
-pub returns-then-size-first-2 : goal.returns-then-size-first-2
-returns-then-size-first-2 c =
-    λ ws total e. inside_past _ _ _ _ _ _ _ c.requires (omega arith) e c.if-start-back.false (omega arith)
+    λ ws total e. inside_past _ _ _ _ _ _ _ c.requires (omega arith) e c.if-start-back.false (elim c.then-size-first.branch [
+      | then-size-first-via-then-size-first w ↦ omega arith
+      | then-size-first-via-else-size-first+then-size-first-2 w ↦ omega arith
+    ])
 
 pub returns : goal.returns
 returns c =

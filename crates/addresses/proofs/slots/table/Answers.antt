@@ -1,68 +1,79 @@
 -- `table`: the table row, its schema, the leaf, the indexes, and the place. Assumes nothing.
 use mathlib.Core.Path.{sym, ap, ◌∙◌}
 use native.Mathlib.Omega.{arith}
+use Rattle.std.proofs.lemmas.Result.{err_from_is_err_and}
 use Rattle.format.specs.Answers.{found}
 use Rattle.format.specs.Rows.{rows_in}
 use Rattle.ways.proofs.Along.{followed}
 use Rattle.addresses.proofs.SlotCases.{table_unfit, table_schemaless, table_leafless, table_refused, table_there}
 use Rattle.addresses.proofs.slots.table.Goals as goal
 
-pub returns-in-Refused : goal.returns-in-Refused
-unfolding rows_in
-returns-in-Refused c =
-    let e = rw c.count-end.ensures at (sym c.along.ensures) ∙ ap found c.in-Refused.is in table_unfit _ _ _ _ _ _ e
+pub returns-in_err-stop : goal.returns-in_err-stop
+returns-in_err-stop c =
+    let p = err_from_is_err_and c.from_residual.result c.from_residual.ensures.1 in
+    rw (p.1, p.2) (table_unfit _ _ _ _ _ _ (rw c.count.ensures at (sym c.along.ensures) ∙ ap found c.in_err-stop.was))
 
 pub overflow_add-row : goal.overflow_add-row
 unfolding rows_in
 overflow_add-row c =
-    let e = rw c.count-end.ensures at (sym c.along.ensures) ∙ ap found c.in-Row.is in let f = followed _ _ _ _ _ e in omega (arith, f.before)
+    let f = followed _ _ _ _ _ (rw c.count.ensures at (sym c.along.ensures) ∙ ap found c.in_ok-stop.was) in omega (arith, f.before)
 
 pub along_child-requires : goal.along_child-requires
-unfolding rows_in
 along_child-requires c =
-    let e = rw c.count-end.ensures at (sym c.along.ensures) ∙ ap found c.in-Row.is in let f = followed _ _ _ _ _ e in omega (arith, f.inside)
+    let f = followed _ _ _ _ _ (rw c.count.ensures at (sym c.along.ensures) ∙ ap found c.in_ok-stop.was) in omega (arith, f.inside)
 
-pub returns-in-Refused-along_child : goal.returns-in-Refused-along_child
-unfolding rows_in
-returns-in-Refused-along_child c =
-    let e = rw c.count-end.ensures at (sym c.along.ensures) ∙ ap found c.in-Row.is in let q = sym c.along_child.ensures ∙ ap found c.in-Refused-along_child.is in table_schemaless _ _ _ _ _ _ e _ q
+pub returns-in_err-from : goal.returns-in_err-from
+returns-in_err-from c =
+    let p = err_from_is_err_and c.from_residual-in_err-from.result c.from_residual-in_err-from.ensures.1 in
+    let e = rw c.count.ensures at (sym c.along.ensures) ∙ ap found c.in_ok-stop.was in
+    rw (p.1, p.2) (table_schemaless _ _ _ _ _ _ e _ (sym c.along_child.ensures ∙ ap found c.in_err-from.was))
 
 pub overflow_add-row-2 : goal.overflow_add-row-2
 unfolding rows_in
 overflow_add-row-2 c =
-    let e = rw c.count-end.ensures at (sym c.along.ensures) ∙ ap found c.in-Row.is in let f = followed _ _ _ _ _ e in omega (arith, f.before)
+    let f = followed _ _ _ _ _ (rw c.count.ensures at (sym c.along.ensures) ∙ ap found c.in_ok-stop.was) in omega (arith, f.before)
 
 pub overflow_add-row-3 : goal.overflow_add-row-3
 unfolding rows_in
 overflow_add-row-3 c =
-    let e = rw c.count-end.ensures at (sym c.along.ensures) ∙ ap found c.in-Row.is in let f = followed _ _ _ _ _ e in omega (arith, f.before)
+    let f = followed _ _ _ _ _ (rw c.count.ensures at (sym c.along.ensures) ∙ ap found c.in_ok-stop.was) in omega (arith, f.before)
 
 pub field-requires : goal.field-requires
-unfolding rows_in
 field-requires c =
-    let e = rw c.count-end.ensures at (sym c.along.ensures) ∙ ap found c.in-Row.is in let q = sym c.along_child.ensures ∙ ap found c.in-Row-along_child.is in let f = followed _ _ _ _ _ e in let g = followed _ _ _ _ _ q in (omega (arith, g.before, f.inside), omega (arith, g.link, g.inside, f.inside), omega arith)
+    let f = followed _ _ _ _ _ (rw c.count.ensures at (sym c.along.ensures) ∙ ap found c.in_ok-stop.was) in
+    let g = followed _ _ _ _ _ (sym c.along_child.ensures ∙ ap found c.in_ok-from.was) in
+    (omega (arith, g.before, f.inside), omega (arith, g.link, g.inside, f.inside))
 
-pub returns-in-Refused-field : goal.returns-in-Refused-field
-unfolding rows_in
-returns-in-Refused-field c =
-    let e = rw c.count-end.ensures at (sym c.along.ensures) ∙ ap found c.in-Row.is in let q = sym c.along_child.ensures ∙ ap found c.in-Row-along_child.is in let s = sym c.field.ensures.is ∙ ap found c.in-Refused-field.is in table_leafless _ _ _ _ _ _ e _ q _ s
+pub returns-in_err-top : goal.returns-in_err-top
+returns-in_err-top c =
+    let p = err_from_is_err_and c.from_residual-in_err-top.result c.from_residual-in_err-top.ensures.1 in
+    let e = rw c.count.ensures at (sym c.along.ensures) ∙ ap found c.in_ok-stop.was in
+    let q = sym c.along_child.ensures ∙ ap found c.in_ok-from.was in
+    rw (p.1, p.2) (table_leafless _ _ _ _ _ _ e _ q _ (sym c.field.ensures.is ∙ ap found c.in_err-top.was))
 
 pub positioned-requires : goal.positioned-requires
-unfolding rows_in
 positioned-requires c =
-    let e = rw c.count-end.ensures at (sym c.along.ensures) ∙ ap found c.in-Row.is in let f = followed _ _ _ _ _ e in (f.before, omega (arith, f.link, f.inside))
+    let f = followed _ _ _ _ _ (rw c.count.ensures at (sym c.along.ensures) ∙ ap found c.in_ok-stop.was) in (f.before, omega (arith, f.link, f.inside))
+
+pub returns-in_err-number : goal.returns-in_err-number
+returns-in_err-number c =
+    let p = err_from_is_err_and c.from_residual-in_err-number.result c.from_residual-in_err-number.ensures.1 in
+    let e = rw c.count.ensures at (sym c.along.ensures) ∙ ap found c.in_ok-stop.was in
+    let q = sym c.along_child.ensures ∙ ap found c.in_ok-from.was in
+    let s = sym c.field.ensures.is ∙ ap found c.in_ok-top.was in
+    rw (p.1, p.2) (table_refused _ _ _ _ _ _ e _ q _ s _ (rw c.in_err-number.was at c.positioned.ensures))
 
 pub in_record-requires : goal.in_record-requires
-unfolding rows_in
 in_record-requires c =
-    let e = rw c.count-end.ensures at (sym c.along.ensures) ∙ ap found c.in-Row.is in let q = sym c.along_child.ensures ∙ ap found c.in-Row-along_child.is in let f = followed _ _ _ _ _ e in let g = followed _ _ _ _ _ q in let b = rw c.in-Row-field.is at c.field.ensures.bounds in (c.requires, omega (arith, g.before, f.inside), b.0, b.1)
+    let f = followed _ _ _ _ _ (rw c.count.ensures at (sym c.along.ensures) ∙ ap found c.in_ok-stop.was) in
+    let g = followed _ _ _ _ _ (sym c.along_child.ensures ∙ ap found c.in_ok-from.was) in
+    let b = rw c.in_ok-top.was at c.field.ensures.bounds in
+    (c.requires, omega (arith, g.before, f.inside), b.0, b.1)
 
-pub returns-in-Refused-positioned : goal.returns-in-Refused-positioned
-unfolding rows_in
-returns-in-Refused-positioned c =
-    let e = rw c.count-end.ensures at (sym c.along.ensures) ∙ ap found c.in-Row.is in let q = sym c.along_child.ensures ∙ ap found c.in-Row-along_child.is in let s = sym c.field.ensures.is ∙ ap found c.in-Row-field.is in table_refused _ _ _ _ _ _ e _ q _ s _ (rw c.in-Refused-positioned.is at c.positioned.ensures)
-
-pub returns-in-At : goal.returns-in-At
-unfolding rows_in
-returns-in-At c =
-    let e = rw c.count-end.ensures at (sym c.along.ensures) ∙ ap found c.in-Row.is in let q = sym c.along_child.ensures ∙ ap found c.in-Row-along_child.is in let s = sym c.field.ensures.is ∙ ap found c.in-Row-field.is in let p = rw c.in-At.is at c.positioned.ensures in c.in_record.ensures _ p.number ∙ sym (table_there _ _ _ _ _ _ e _ q _ s _ p)
+pub returns : goal.returns
+returns c =
+    let e = rw c.count.ensures at (sym c.along.ensures) ∙ ap found c.in_ok-stop.was in
+    let q = sym c.along_child.ensures ∙ ap found c.in_ok-from.was in
+    let s = sym c.field.ensures.is ∙ ap found c.in_ok-top.was in
+    let p = rw c.in_ok-number.was at c.positioned.ensures in
+    c.in_record.ensures _ p.number ∙ sym (table_there _ _ _ _ _ _ e _ q _ s _ p)

@@ -1,27 +1,31 @@
 -- `typed_object`: the count, then the pairs. Assumes nothing.
-use mathlib.Core.Path.{sym, ap, ◌∙◌}
+use mathlib.Core.Path.{sym}
 use native.Mathlib.Omega.{arith}
-use lib.ListN.{length}
 use native.Mathlib.Nat.{sub-zero}
-use Rattle.scan.specs.Numbers.{parsed}
-use Rattle.tokens.proofs.Laying.{within_from}
-use Rattle.containers.proofs.Closing.{counted-fault, counted-closed}
+use lib.ListN.{length}
+use Rattle.std.proofs.lemmas.Result.{err_from_is_err_and}
+use Rattle.format.specs.Outcome.{◌>>=◌}
+use Rattle.format.specs.Containers.{counted}
+use Rattle.containers.proofs.Closing.{counted-closed}
 use Rattle.containers.proofs.pairs.typed_object.Goals as goal
 
-pub returns-in-Refused-clause-meets : goal.returns-in-Refused-clause-meets
-returns-in-Refused-clause-meets c =
-    counted-fault _ _ _ _ _ _ _ _ _ (sym c.integer.ensures.is ∙ ap parsed c.in-Refused.is)
+pub returns-in_err-count-clause-meets : goal.returns-in_err-count-clause-meets
+unfolding counted ◌>>=◌
+returns-in_err-count-clause-meets c =
+    let p = err_from_is_err_and c.from_residual.result c.from_residual.ensures.1 in
+    rw (p.1, p.2, ← c.in_err-count.ensures.is)
 
-pub returns-in-Number-clause-meets : goal.returns-in-Number-clause-meets
-returns-in-Number-clause-meets c =
-    let e = c.in-Number.is in
-    let b = rw e at c.integer.ensures.bounds in
-    let l = c.pairs-list in
-    let z = c.close in rw (counted-closed _ _ _ _ _ _ _ _ _ (sym c.integer.ensures.is ∙ ap parsed e)) (z.ensures.meets _ _ (rw c.held_by-children.ensures.is at l.ensures.meets))
+pub returns-in_err-list-clause-meets : goal.returns-in_err-list-clause-meets
+unfolding counted ◌>>=◌
+returns-in_err-list-clause-meets c =
+    let p = err_from_is_err_and c.from_residual-in_err-list.result c.from_residual-in_err-list.ensures.1 in
+    rw (p.1, p.2, ← c.in_ok-count.ensures.is, c.in_err-list.ensures.meets)
 
-pub returns-in-Number-clause-bounds : goal.returns-in-Number-clause-bounds
-returns-in-Number-clause-bounds c =
-    let e = c.in-Number.is in
-    let b = rw e at c.integer.ensures.bounds in
-    let l = c.pairs-list in
-    let z = c.close in within_from z.result _ _ _ _ (omega (arith, c.requires.2)) (z.ensures.bounds _ _ (rw (sub-zero (length c.args.message.now)) l.ensures.bounds) (omega arith))
+pub returns-clause-meets : goal.returns-clause-meets
+returns-clause-meets c =
+    rw (counted-closed _ _ _ _ _ _ _ _ _ (sym c.in_ok-count.ensures.is)) (c.close.ensures.meets _ _ (rw c.held_by-children.ensures.is at c.in_ok-list.ensures.meets))
+
+pub returns-clause-bounds : goal.returns-clause-bounds
+returns-clause-bounds c =
+    let b = c.in_ok-count.ensures.bounds in
+    let w = c.close.ensures.bounds (length c.args.message.now) c.args.lent (rw (sub-zero (length c.args.message.now)) c.in_ok-list.ensures.bounds) (omega arith) in omega (arith, c.requires.2)

@@ -20,17 +20,17 @@ module _ (stage : Json.Stage) (s : List ℕ) (i : ℕ) where
   unfolding Json.numeral
   numeral-end h = rw (drop_of_length-le s h)
 
-pub loop-i-init : goal.loop-i-init
+pub loop-b-init : goal.loop-b-init
 unfolding Json.is_number
-loop-i-init c =
-    (omega arith, refl)
+loop-b-init c =
+    refl
 
-pub loop-i-preserved : goal.loop-i-preserved
+pub loop-b-preserved : goal.loop-b-preserved
 unfolding Json.is_number
-loop-i-preserved c =
-    (omega arith, c.loop-i.invariant.1 ∙ numeral-on _ _ _ c.loop-i-test.true ∙ rw c.step-stage.ensures)
+loop-b-preserved c =
+    (c.loop-b.invariant ∙ numeral-on _ c.args.bytes.now c.loop-b.b-index (omega arith) ∙ rw c.step-stage.ensures)
 
 pub returns : goal.returns
 unfolding Json.is_number
 returns c =
-    c.ends.ensures ∙ sym (c.loop-i.invariant.1 ∙ numeral-end _ _ _ c.loop-i-test.false)
+    c.ends.ensures ∙ sym (c.loop-b.invariant ∙ numeral-end _ c.args.bytes.now c.loop-b.b-index (omega arith))

@@ -11,17 +11,17 @@ unfolding is_text
 returns-then-are_chars c =
     sym (chars_shaped _ (sym c.are_chars.ensures ∙ c.if-are_chars.true))
 
-pub loop-i-init : goal.loop-i-init
+pub loop-x-init : goal.loop-x-init
 unfolding is_text
-loop-i-init c =
-    (omega arith, shaped_start _)
+loop-x-init c =
+    shaped_start _
 
-pub loop-i-preserved : goal.loop-i-preserved
+pub loop-x-preserved : goal.loop-x-preserved
 unfolding is_text
-loop-i-preserved c =
-    let v = c.loop-i.invariant in (omega arith, v.1 ∙ rw (shaped_on _ _ _ _ _ c.loop-i-test.true, and_assoc, c.can_stand-stand.ensures))
+loop-x-preserved c =
+    let v = c.loop-x.invariant in (v ∙ rw (shaped_on c.args.bytes.now _ _ _ c.loop-x.x-index (omega arith), and_assoc, c.can_stand-stand.ensures))
 
 pub returns : goal.returns
 unfolding is_text
 returns c =
-    let v = c.loop-i.invariant in sym (v.1 ∙ rw (shaped_end _ _ _ _ _ c.loop-i-test.false, c.is_owed.ensures))
+    let v = c.loop-x.invariant in sym (v ∙ rw (shaped_end c.args.bytes.now _ _ _ c.loop-x.x-index (omega arith), c.is_owed.ensures))

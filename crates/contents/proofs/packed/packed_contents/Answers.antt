@@ -18,12 +18,12 @@ loop-i-init c =
 pub returns-then-message-place-gt127 : goal.returns-then-message-place-gt127
 returns-then-message-place-gt127 c =
     let i = c.loop-i.invariant in
-    λ row. sym (char_off _ _ row _ _ c.loop-i-test.true (omega arith) c.if-message-place-gt127.true) ∙ sym (i.2 row) ∙ rw (← c.if-mark-ne-CHAR.false) (from_all _ _ row _ _)
+    λ row. sym (char_off _ _ row _ _ (omega arith) (omega arith) c.if-message-place-gt127.true) ∙ sym (i.2 row) ∙ rw (← c.if-mark-ne-CHAR.false) (from_all _ _ row _ _)
 
 pub loop-i-preserved : goal.loop-i-preserved
 loop-i-preserved c =
     let i = c.loop-i.invariant in
-    (omega arith, i.1, λ row. i.2 row ∙ char_on _ _ row _ _ c.loop-i-test.true (omega arith) c.if-message-place-gt127.false)
+    (omega arith, i.1, λ row. i.2 row ∙ char_on _ _ row _ _ (omega arith) (omega arith) c.if-message-place-gt127.false)
 
 pub returns : goal.returns
 returns c =

@@ -8,6 +8,3 @@ use Rattle.contents.proofs.packed.packed_contents.Given as goal
 
 abbrev pub invariant-loop-i : goal.invariant-loop-i
 invariant-loop-i l = (l.i ≤ l.n) × (l.start + l.n ≤ length l.message) × ((row : ℕ) → from l.message l.start row 'C' 0 l.n 0 ≡ from l.message l.start row 'C' l.i (l.n - l.i) l.i)
-
-abbrev pub decreases-loop-i : goal.decreases-loop-i
-decreases-loop-i l = l.n - l.i

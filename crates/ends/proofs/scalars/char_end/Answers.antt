@@ -5,4 +5,4 @@ use Rattle.ends.proofs.scalars.char_end.Goals as goal
 
 pub returns : goal.returns
 returns c =
-    λ h. char_ends _ _ (omega arith) (omega arith) (omega arith)
+    char_ends _ _ (omega arith) (omega arith) (omega arith)

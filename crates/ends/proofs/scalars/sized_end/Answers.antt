@@ -5,4 +5,4 @@ use Rattle.ends.proofs.scalars.sized_end.Goals as goal
 
 pub returns : goal.returns
 returns c =
-    λ h. sized_ends _ _ _ c.requires.2 (omega arith) (omega arith)
+    sized_ends _ _ _ c.requires.2 (omega arith) (omega arith)

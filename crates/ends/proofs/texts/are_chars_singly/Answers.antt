@@ -5,14 +5,14 @@ use borrow.Author.Tests.{le-leb, lt-leb}
 use Rattle.content.proofs.All.{all_on, all_off, all_end}
 use Rattle.ends.proofs.texts.are_chars_singly.Goals as goal
 
-pub returns-then-bytes-i-gt127 : goal.returns-then-bytes-i-gt127
-returns-then-bytes-i-gt127 c =
-    sym (c.loop-i.invariant.1 ∙ all_off _ _ _ c.loop-i-test.true (lt-leb _ _ c.if-bytes-i-gt127.true))
+pub returns-then-b-gt127 : goal.returns-then-b-gt127
+returns-then-b-gt127 c =
+    sym (c.loop-b.invariant ∙ all_off _ c.args.bytes.now c.loop-b.b-index (omega arith) (lt-leb _ _ c.if-b-gt127.true))
 
-pub loop-i-preserved : goal.loop-i-preserved
-loop-i-preserved c =
-    (omega arith, c.loop-i.invariant.1 ∙ all_on _ _ _ c.loop-i-test.true (le-leb _ _ c.if-bytes-i-gt127.false))
+pub loop-b-preserved : goal.loop-b-preserved
+loop-b-preserved c =
+    c.loop-b.invariant ∙ all_on _ c.args.bytes.now c.loop-b.b-index (omega arith) (le-leb _ _ c.if-b-gt127.false)
 
 pub returns : goal.returns
 returns c =
-    sym (c.loop-i.invariant.1 ∙ all_end _ _ _ c.loop-i-test.false)
+    sym (c.loop-b.invariant ∙ all_end _ c.args.bytes.now c.loop-b.b-index (omega arith))

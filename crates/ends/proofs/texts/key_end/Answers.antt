@@ -8,4 +8,4 @@ use Rattle.ends.proofs.texts.key_end.Goals as goal
 
 pub returns-then-are_chars_singly : goal.returns-then-are_chars_singly
 returns-then-are_chars_singly c =
-    λ h. key_ends _ _ (omega arith) (c.shared_slice_known-3-1.given _).fits (omega arith) (sym (c.are_chars_singly.ensures ∙ ap (all _) (part_is _ _ _)) ∙ c.if-are_chars_singly.true)
+    key_ends _ _ (omega arith) (c.shared_slice_known-3-1.given _).fits (omega arith) (sym (c.are_chars_singly.ensures ∙ ap (all _) (part_is _ _ _)) ∙ c.if-are_chars_singly.true)

@@ -6,4 +6,4 @@ use Rattle.ends.proofs.texts.text_end.Goals as goal
 
 pub returns-then-are_chars_from : goal.returns-then-are_chars_from
 returns-then-are_chars_from c =
-    λ h. text_ends _ _ (omega arith) (omega arith) (c.shared_slice_known-4-1.given _).fits (omega arith) (sym c.are_chars_from.ensures ∙ c.if-are_chars_from.true)
+    text_ends _ _ (omega arith) (omega arith) (c.shared_slice_known-4-1.given _).fits (omega arith) (sym c.are_chars_from.ensures ∙ c.if-are_chars_from.true)

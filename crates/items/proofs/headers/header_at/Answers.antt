@@ -1,8 +1,8 @@
 -- `header_at`: depth, row, and what follows the mark. Assumes nothing.
 use Prim.Native.Nat.{◌<◌}
-use mathlib.Core.Path.{sym, ap, ◌∙◌}
+use mathlib.Core.Path.{sym}
 use native.Mathlib.Omega.{arith}
-use Rattle.scan.specs.Numbers.{parsed}
+use Rattle.std.proofs.lemmas.Result.{err_from_is_err_and}
 use Rattle.items.proofs.ContainerCases.{nested_deep, nested_no_row, nested_early, nested_typed, nested_plain, nested_count_fault, nested_counted}
 use Rattle.items.proofs.headers.header_at.Goals as goal
 
@@ -26,13 +26,12 @@ pub returns-then-b-ne-COUNT-clause-meets : goal.returns-then-b-ne-COUNT-clause-m
 returns-then-b-ne-COUNT-clause-meets c =
     let d : 0 < c.args.levels = omega (arith, c.if-levels-eq0.false) in (λ g o. nested_plain _ _ g _ _ o _ d c.if-lent-row.false c.if-end-next.false c.if-b-eq-TYPE.false c.if-b-ne-COUNT.true)
 
-pub returns-in-Refused-clause-meets : goal.returns-in-Refused-clause-meets
-returns-in-Refused-clause-meets c =
+pub returns-in_err-count-clause-meets : goal.returns-in_err-count-clause-meets
+returns-in_err-count-clause-meets c =
     let d : 0 < c.args.levels = omega (arith, c.if-levels-eq0.false) in
-    let e = c.in-Refused.is in (λ g o. nested_count_fault _ _ g _ _ o _ d c.if-lent-row.false c.if-end-next.false c.if-b-eq-TYPE.false c.if-b-ne-COUNT.false _ _ (sym c.integer.ensures.is ∙ ap parsed e))
+    let p = err_from_is_err_and c.from_residual.result c.from_residual.ensures.1 in
+    rw (p.1, p.2) (λ g o. nested_count_fault _ _ g _ _ o _ d c.if-lent-row.false c.if-end-next.false c.if-b-eq-TYPE.false c.if-b-ne-COUNT.false _ _ (sym c.in_err-count.ensures.is))
 
-pub returns-in-Number-clause-meets : goal.returns-in-Number-clause-meets
-returns-in-Number-clause-meets c =
-    let d : 0 < c.args.levels = omega (arith, c.if-levels-eq0.false) in
-    let e = c.in-Number.is in
-    let b = rw e at c.integer.ensures.bounds in (λ g o. nested_counted _ _ g _ _ o _ d c.if-lent-row.false c.if-end-next.false c.if-b-eq-TYPE.false c.if-b-ne-COUNT.false _ _ (sym c.integer.ensures.is ∙ ap parsed e))
+pub returns-clause-meets : goal.returns-clause-meets
+returns-clause-meets c =
+    let d : 0 < c.args.levels = omega (arith, c.if-levels-eq0.false) in (λ g o. nested_counted _ _ g _ _ o _ d c.if-lent-row.false c.if-end-next.false c.if-b-eq-TYPE.false c.if-b-ne-COUNT.false _ _ (sym c.in_ok-count.ensures.is))

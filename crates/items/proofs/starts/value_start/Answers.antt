@@ -16,22 +16,19 @@ pub returns-in-Scalar-clause-meets : goal.returns-in-Scalar-clause-meets
 unfolding value_on members is_kind when◌then◌else◌
 returns-in-Scalar-clause-meets c =
     let s = c.scalar in
-    let e = c.whole.ensures in
-    let b = (sym c.class_of.ensures ∙ ap class_of c.in-Scalar.is) in rw e (whole_meets s.result _ _ _ _ _ _ (λ nested. value_begins _ _ _ nested _ _ _ c.if-end-at.false b) s.ensures.meets)
+    let b = (sym c.class_of.ensures ∙ ap class_of c.in-Scalar.is) in whole_meets s.result _ _ _ _ _ _ _ c.map.ensures.cases (λ nested. value_begins _ _ _ nested _ _ _ c.if-end-at.false b) s.ensures.meets
 
 pub returns-in-Text-clause-meets : goal.returns-in-Text-clause-meets
 unfolding value_on members is_kind when◌then◌else◌
 returns-in-Text-clause-meets c =
     let s = c.text in
-    let e = c.whole-in-Text.ensures in
-    let b = (sym c.class_of.ensures ∙ ap class_of c.in-Text.is) in rw e (whole_meets s.result _ _ _ _ _ _ (λ nested. value_begins _ _ _ nested _ _ _ c.if-end-at.false b) s.ensures.meets)
+    let b = (sym c.class_of.ensures ∙ ap class_of c.in-Text.is) in whole_meets s.result _ _ _ _ _ _ _ c.map-in-Text.ensures.cases (λ nested. value_begins _ _ _ nested _ _ _ c.if-end-at.false b) s.ensures.meets
 
 pub returns-in-HighPrecision-clause-meets : goal.returns-in-HighPrecision-clause-meets
 unfolding value_on members is_kind when◌then◌else◌
 returns-in-HighPrecision-clause-meets c =
     let s = c.text-in-HighPrecision in
-    let e = c.whole-in-HighPrecision.ensures in
-    let b = (sym c.class_of.ensures ∙ ap class_of c.in-HighPrecision.is) in rw e (whole_meets s.result _ _ _ _ _ _ (λ nested. value_begins _ _ _ nested _ _ _ c.if-end-at.false b) s.ensures.meets)
+    let b = (sym c.class_of.ensures ∙ ap class_of c.in-HighPrecision.is) in whole_meets s.result _ _ _ _ _ _ _ c.map-in-HighPrecision.ensures.cases (λ nested. value_begins _ _ _ nested _ _ _ c.if-end-at.false b) s.ensures.meets
 
 pub returns-in-Bracket-clause-meets : goal.returns-in-Bracket-clause-meets
 unfolding value_on members is_kind when◌then◌else◌
@@ -47,8 +44,7 @@ pub returns-in-Extension-clause-meets : goal.returns-in-Extension-clause-meets
 unfolding value_on members is_kind when◌then◌else◌
 returns-in-Extension-clause-meets c =
     let s = c.extension in
-    let e = c.whole-in-Extension.ensures in
-    let b = (sym c.class_of.ensures ∙ ap class_of c.in-Extension.is) in rw e (whole_meets s.result _ _ _ _ _ _ (λ nested. value_begins _ _ _ nested _ _ _ c.if-end-at.false b) s.ensures.meets)
+    let b = (sym c.class_of.ensures ∙ ap class_of c.in-Extension.is) in whole_meets s.result _ _ _ _ _ _ _ c.map-in-Extension.ensures.cases (λ nested. value_begins _ _ _ nested _ _ _ c.if-end-at.false b) s.ensures.meets
 
 pub returns-in-Other-clause-meets : goal.returns-in-Other-clause-meets
 unfolding value_on members is_kind when◌then◌else◌

@@ -4,4 +4,4 @@ use Rattle.kinds.proofs.leaves.leaf.Goals as goal
 
 pub returns-clause-meets : goal.returns-clause-meets
 returns-clause-meets c =
-    let w = c.offset_after-end.ensures in read_leaf _ _ _ _ _ _ _ _ _ _ w c.put.ensures
+    let w = c.offset_after-end.ensures in read_leaf _ _ _ _ _ _ _ _ _ _ w c.put_alone.ensures

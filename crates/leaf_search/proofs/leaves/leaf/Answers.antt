@@ -1,6 +1,5 @@
 -- `leaf`: a mark alone, or `S` and an integer. Assumes nothing.
-use mathlib.Core.Path.{sym, ◌∙◌, ap}
-use Rattle.scan.specs.Numbers.{parsed}
+use mathlib.Core.Path.{sym, ◌∙◌}
 use Rattle.leaf_search.proofs.LeafWalks.{no_walk, plain_walks, text_walks, unread_walks, other_walks}
 use Rattle.leaf_search.proofs.leaves.leaf.Goals as goal
 
@@ -16,10 +15,10 @@ pub returns-then-mark-ne-TEXT-clause-is : goal.returns-then-mark-ne-TEXT-clause-
 returns-then-mark-ne-TEXT-clause-is c =
     (λ levels a b. other_walks _ _ _ _ _ c.if-message-at.false (sym c.is_plain_leaf.ensures ∙ c.if-is_plain_leaf.false) c.if-mark-ne-TEXT.true levels a b)
 
-pub returns-in-Refused-clause-is : goal.returns-in-Refused-clause-is
-returns-in-Refused-clause-is c =
-    (λ levels a b. unread_walks _ _ _ _ _ c.if-message-at.false (sym c.is_plain_leaf.ensures ∙ c.if-is_plain_leaf.false) c.if-mark-ne-TEXT.false _ _ (sym c.integer.ensures.is ∙ ap parsed c.in-Refused.is) levels)
+pub returns-in_default-clause-is : goal.returns-in_default-clause-is
+returns-in_default-clause-is c =
+    (λ levels a b. unread_walks _ _ _ _ _ c.if-message-at.false (sym c.is_plain_leaf.ensures ∙ c.if-is_plain_leaf.false) c.if-mark-ne-TEXT.false _ _ (sym c.in_default.ensures.is) levels)
 
-pub returns-in-Number-clause-is : goal.returns-in-Number-clause-is
-returns-in-Number-clause-is c =
-    (λ levels a b. text_walks _ _ _ _ _ c.if-message-at.false (sym c.is_plain_leaf.ensures ∙ c.if-is_plain_leaf.false) c.if-mark-ne-TEXT.false _ _ (sym c.integer.ensures.is ∙ ap parsed c.in-Number.is) c.leaf_over-in-Number.ensures.is levels)
+pub returns-clause-is : goal.returns-clause-is
+returns-clause-is c =
+    (λ levels a b. text_walks _ _ _ _ _ c.if-message-at.false (sym c.is_plain_leaf.ensures ∙ c.if-is_plain_leaf.false) c.if-mark-ne-TEXT.false _ _ (sym c.in-Ok.ensures.is) c.leaf_over-2.ensures.is levels)

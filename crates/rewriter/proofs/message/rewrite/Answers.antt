@@ -5,14 +5,14 @@ use Rattle.rewriter.proofs.message.rewrite.Goals as goal
 
 pub put_tokens-end-requires : goal.put_tokens-end-requires
 put_tokens-end-requires c =
-    let a = accepts _ _ (rw c.in-Done.is at c.read.ensures.answer) in (held_read _ _ _ _ _ c.read.ensures.words a, room_read _ _ _ _ a)
+    let a = accepts _ _ (c.in-Ok.ensures.answer) in (held_read _ _ _ _ _ c.read.ensures.words a, room_read _ _ _ _ a)
 
-pub returns-in-Refused : goal.returns-in-Refused
-returns-in-Refused c =
-    let l = refused _ _ _ _ _ _ _ _ (rw c.in-Refused.is at c.read.ensures.answer) c.clear.ensures c.read.ensures.words in
+pub returns-in-Err : goal.returns-in-Err
+returns-in-Err c =
+    let l = refused _ _ _ _ _ _ _ _ (c.in-Err.ensures.answer) c.clear.ensures c.read.ensures.words in
     record { answer = l.answers; output = l.output_is; words = l.words_are }
 
-pub returns-in-Done : goal.returns-in-Done
-returns-in-Done c =
-    let l = settled _ _ _ _ _ _ _ _ (accepts _ _ (rw c.in-Done.is at c.read.ensures.answer)) c.read.ensures.words (omega arith) c.put_tokens-end.ensures.puts c.settle.ensures in
+pub returns-in-Ok : goal.returns-in-Ok
+returns-in-Ok c =
+    let l = settled _ _ _ _ _ _ _ _ (accepts _ _ (c.in-Ok.ensures.answer)) c.read.ensures.words (omega arith) c.put_tokens-end.ensures.puts c.settle.ensures in
     record { answer = l.answers; output = l.output_is; words = l.words_are }

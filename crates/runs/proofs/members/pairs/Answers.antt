@@ -10,15 +10,15 @@ loop-count-init c =
 
 pub put_value-requires : goal.put_value-requires
 put_value-requires c =
-    let k = c.key_end-value.ensures (omega arith) in
-    let v = c.value_end-next.ensures (omega arith) in
+    let k = c.in-Some.ensures in
+    let v = c.in-Some-value_end.ensures in
     let s = value_inside _ _ _ v in
     (omega arith, value_starts _ _ _ v, omega arith)
 
 pub loop-count-preserved : goal.loop-count-preserved
 loop-count-preserved c =
-    let k = c.key_end-value.ensures (omega arith) in
-    let v = c.value_end-next.ensures (omega arith) in
+    let k = c.in-Some.ensures in
+    let v = c.in-Some-value_end.ensures in
     let s = value_inside _ _ _ v in
     let p = c.put_alone in
     let q = c.put_value in

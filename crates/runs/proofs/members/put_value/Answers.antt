@@ -26,3 +26,11 @@ returns-then-mark-eq-TEXT c =
 pub returns-else-mark-eq-TEXT : goal.returns-else-mark-eq-TEXT
 returns-else-mark-eq-TEXT c =
     rw (value_token_scalar _ c.args.at c.args.next c.if-mark-eq-TEXT.false) c.put_alone-else-mark-eq-TEXT.ensures
+
+pub overflow_sub-next : goal.overflow_sub-next
+overflow_sub-next c =
+    omega (arith, value_start_text _ c.args.at c.if-mark-eq-TEXT.true, c.requires)
+
+pub overflow_sub-next-else-mark-eq-TEXT : goal.overflow_sub-next-else-mark-eq-TEXT
+overflow_sub-next-else-mark-eq-TEXT c =
+    omega (arith, value_start_scalar _ c.args.at c.if-mark-eq-TEXT.false, c.requires)

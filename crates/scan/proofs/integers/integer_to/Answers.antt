@@ -9,13 +9,14 @@ use Rattle.format.specs.Marks.{is_integer, width}
 use Rattle.format.proofs.MarkFacts.{integer_wide}
 use Rattle.format.proofs.IntegerCases.{integer_early, integer_other, integer_number}
 use Rattle.scan.specs.Numbers.{Bounded}
+use Rattle.std.specs.Prelude.{Result, Ok, Err}
+use Rattle.format.specs.declared.refusals.Refused.{Refused}
 use Rattle.scan.specs.declared.integers.Parsed.{Parsed}
-use Rattle.scan.specs.declared.integers.Parsed.TheVariants.{Number, Refused}
 use Rattle.scan.proofs.integers.integer_to.Goals as goal
 
-further : (r : Parsed) (highest from end : ℕ) (from' : ℕ) → from' ≤ from → Bounded r highest from end → Bounded r highest from' end
-further (Number n next) highest from end from' h b = (b.0, le_trans h b.1, b.2)
-further (Refused n p) highest from end from' h b = tt
+further : (r : Result Parsed Refused) (highest from end : ℕ) (from' : ℕ) → from' ≤ from → Bounded r highest from end → Bounded r highest from' end
+further (Ok i) highest from end from' h b = (b.0, le_trans h b.1, b.2)
+further (Err r) highest from end from' h b = tt
 
 pub returns-then-end-at-clause-is : goal.returns-then-end-at-clause-is
 returns-then-end-at-clause-is c =

@@ -20,32 +20,31 @@ returns-then-message-at-2 c =
     not_there _ _ _ (omega arith)
 
 pub loop-k-init : goal.loop-k-init
-loop-k-init c =
-    (omega arith, none_read _ _ _)
+loop-k-init c = none_read _ _ _
 
 pub overflow_mul-n : goal.overflow_mul-n
 overflow_mul-n c =
-    let more : c.loop-k.n * 256 + get_or c.args.message.now (c.args.at + (c.loop-k.k - 1)) 0
-    ≡ little (bytes c.args.message.now (c.args.at + (c.loop-k.k - 1)) (c.args.width - (c.loop-k.k - 1))) = let a = c.args in
-    rw c.loop-k.invariant.1 (one_lower a.message.now a.at c.loop-k.k a.width (omega arith) (omega arith) (omega arith)) in
-    let under : little (bytes c.args.message.now (c.args.at + (c.loop-k.k - 1)) (c.args.width - (c.loop-k.k - 1))) < 2 ^ 64 = fits_64 _ _ _ (λ i. (c.shared_slice_known-1.given i).fits) (omega arith) in
+    let a = c.args in
+    let k = c.loop-k.k in
+    let more : c.loop-k.n * 256 + get_or a.message.now (a.at + (a.width - 1 - k)) 0 ≡ little (bytes a.message.now (a.at + (a.width - (k + 1))) (k + 1))
+    = rw c.loop-k.invariant (one_lower a.message.now a.at k a.width (omega arith) (omega arith)) in
+    let under : little (bytes a.message.now (a.at + (a.width - (k + 1))) (k + 1)) < 2 ^ 64 = fits_64 _ _ _ (λ i. (c.shared_slice_known-1.given i).fits) (omega arith) in
     omega (arith, more, under)
 
 pub overflow_add-n : goal.overflow_add-n
 overflow_add-n c =
-    let more : c.loop-k.n * 256 + get_or c.args.message.now (c.args.at + (c.loop-k.k - 1)) 0
-    ≡ little (bytes c.args.message.now (c.args.at + (c.loop-k.k - 1)) (c.args.width - (c.loop-k.k - 1))) = let a = c.args in
-    rw c.loop-k.invariant.1 (one_lower a.message.now a.at c.loop-k.k a.width (omega arith) (omega arith) (omega arith)) in
-    let under : little (bytes c.args.message.now (c.args.at + (c.loop-k.k - 1)) (c.args.width - (c.loop-k.k - 1))) < 2 ^ 64 = fits_64 _ _ _ (λ i. (c.shared_slice_known-1.given i).fits) (omega arith) in
+    let a = c.args in
+    let k = c.loop-k.k in
+    let more : c.loop-k.n * 256 + get_or a.message.now (a.at + (a.width - 1 - k)) 0 ≡ little (bytes a.message.now (a.at + (a.width - (k + 1))) (k + 1))
+    = rw c.loop-k.invariant (one_lower a.message.now a.at k a.width (omega arith) (omega arith)) in
+    let under : little (bytes a.message.now (a.at + (a.width - (k + 1))) (k + 1)) < 2 ^ 64 = fits_64 _ _ _ (λ i. (c.shared_slice_known-1.given i).fits) (omega arith) in
     omega (arith, more, under)
 
 pub loop-k-preserved : goal.loop-k-preserved
 loop-k-preserved c =
-    let more : c.loop-k.n * 256 + get_or c.args.message.now (c.args.at + (c.loop-k.k - 1)) 0
-    ≡ little (bytes c.args.message.now (c.args.at + (c.loop-k.k - 1)) (c.args.width - (c.loop-k.k - 1))) = let a = c.args in
-    rw c.loop-k.invariant.1 (one_lower a.message.now a.at c.loop-k.k a.width (omega arith) (omega arith) (omega arith)) in
-    (omega arith, more)
+    let a = c.args in
+    rw c.loop-k.invariant (one_lower a.message.now a.at c.loop-k.k a.width (omega arith) (omega arith))
 
 pub returns : goal.returns
 returns c =
-    c.loop-k.invariant.1 ∙ all_read _ _ _ _ c.loop-k-test.false ∙ all_there _ _ _ (omega arith) (omega arith)
+    c.loop-k.invariant ∙ all_read _ _ c.loop-k.k c.args.width (omega arith) (omega arith) ∙ all_there _ _ _ (omega arith) (omega arith)

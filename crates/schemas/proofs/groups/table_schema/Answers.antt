@@ -8,4 +8,4 @@ returns-then-lent-row-clause-meets c =
 
 pub returns-clause-meets : goal.returns-clause-meets
 returns-clause-meets c =
-    rw (table_opens _ _ _ _ c.if-lent-row.false) c.record_kinds.ensures.meets
+    rw (table_opens _ _ _ _ c.if-lent-row.false) c.group_kinds.ensures.meets

@@ -1,16 +1,17 @@
 -- `plain`: the integer. Assumes nothing.
-use mathlib.Core.Path.{sym, ap, ◌∙◌}
-use Rattle.scan.specs.Numbers.{parsed}
-use Rattle.shapes.proofs.Cases.{plain_wrong, plain_there}
+use Rattle.std.proofs.lemmas.Result.{err_from_is_err_and}
+use Rattle.format.specs.Outcome.{◌>>=◌}
+use Rattle.format.specs.Dimensions.{plain}
 use Rattle.shapes.proofs.Told.{told_plain}
 use Rattle.shapes.proofs.counts.plain.Goals as goal
 
-pub returns-in-Refused-clause-meets : goal.returns-in-Refused-clause-meets
-returns-in-Refused-clause-meets c =
-    (λ lent ancestry words. plain_wrong _ _ _ _ _ (sym c.integer.ensures.is ∙ ap parsed c.in-Refused.is))
+pub returns-in_err-count-clause-meets : goal.returns-in_err-count-clause-meets
+unfolding plain ◌>>=◌
+returns-in_err-count-clause-meets c =
+    let p = err_from_is_err_and c.from_residual.result c.from_residual.ensures.1 in
+    λ lent ancestry words. rw (p.1, p.2, ← c.in_err-count.ensures.is)
 
-pub returns-in-Number-clause-meets : goal.returns-in-Number-clause-meets
-returns-in-Number-clause-meets c =
-    let i = c.integer in
-    let e = c.in-Number.is in
-    let b = rw e at i.ensures.bounds in (λ lent ancestry words. rw (plain_there _ _ _ _ _ (sym i.ensures.is ∙ ap parsed e)) (told_plain _ _ _ _ _ b.0))
+pub returns-clause-meets : goal.returns-clause-meets
+unfolding plain ◌>>=◌
+returns-clause-meets c =
+    λ lent ancestry words. rw (← c.in_ok-count.ensures.is) (told_plain _ _ _ _ _ c.in_ok-count.ensures.bounds.0)

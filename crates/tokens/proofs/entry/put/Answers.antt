@@ -5,4 +5,4 @@ use Rattle.tokens.proofs.entry.put.Goals as goal
 pub returns : goal.returns
 unfolding row_of
 returns c =
-    rw (← c.number-kind.ensures) c.store.ensures
+    rw (← c.number.ensures) c.store.ensures

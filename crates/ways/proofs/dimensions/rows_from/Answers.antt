@@ -3,6 +3,7 @@ use mathlib.Core.Path.{sym, ap, ◌∙◌}
 use native.Mathlib.Omega.{arith}
 use lib.ListN.{length-set}
 use lib.Seq.{length-take-le}
+use Rattle.std.proofs.lemmas.Result.{err_from_is_err_and}
 use Rattle.format.specs.Answers.{found}
 use Rattle.format.specs.Rows.{rows_in}
 use Rattle.ways.proofs.Along.{followed}
@@ -14,25 +15,27 @@ unfolding rows_in
 loop-row-init c =
     (sofar_start _ _ _ _ c.requires.0 (omega (arith, c.requires.1)), omega arith, c.requires.2)
 
-pub returns-in-Refused : goal.returns-in-Refused
+pub returns-in_err-next : goal.returns-in_err-next
 unfolding rows_in
-returns-in-Refused c =
-    let e = sym c.along_child.ensures ∙ ap found c.in-Refused.is in sofar_refused _ _ _ _ _ _ _ c.loop-row.invariant.0 c.loop-row-test.true e
+returns-in_err-next c =
+    let p = err_from_is_err_and c.from_residual.result c.from_residual.ensures.1 in
+    let e = sym c.along_child.ensures ∙ ap found c.in_err-next.was in
+    rw (p.1, p.2) (sofar_refused _ _ _ _ _ _ _ c.loop-row.invariant.0 c.loop-row-test.true e)
 
 pub returns-then-many-eq-DIMENSION_LIMIT : goal.returns-then-many-eq-DIMENSION_LIMIT
 unfolding rows_in
 returns-then-many-eq-DIMENSION_LIMIT c =
-    let e = sym c.along_child.ensures ∙ ap found c.in-Row.is in let i = c.loop-row.invariant in let k = length-take-le c.loop-row.many c.loop-row.into (omega (arith, i.1, i.2)) in sofar_ninth _ _ _ _ _ _ _ i.0 c.loop-row-test.true e (omega arith)
+    let e = sym c.along_child.ensures ∙ ap found c.in_ok-next.was in let i = c.loop-row.invariant in let k = length-take-le c.loop-row.many c.loop-row.into (omega (arith, i.1, i.2)) in sofar_ninth _ _ _ _ _ _ _ i.0 c.loop-row-test.true e (omega arith)
 
 pub loop-row-smaller : goal.loop-row-smaller
 unfolding rows_in
 loop-row-smaller c =
-    let e = sym c.along_child.ensures ∙ ap found c.in-Row.is in let f = followed _ _ _ _ _ e in omega (arith, f.up, f.before)
+    let e = sym c.along_child.ensures ∙ ap found c.in_ok-next.was in let f = followed _ _ _ _ _ e in omega (arith, f.up, f.before)
 
 pub loop-row-preserved : goal.loop-row-preserved
 unfolding rows_in
 loop-row-preserved c =
-    let e = sym c.along_child.ensures ∙ ap found c.in-Row.is in
+    let e = sym c.along_child.ensures ∙ ap found c.in_ok-next.was in
     let i = c.loop-row.invariant in
     let t = c.loop-row-test.true in (
       sofar_store _ _ _ _ c.loop-row.row _ c.loop-row.many _ c.loop-row.into i.0 t e (omega (arith, i.2, i.1, c.if-many-eq-DIMENSION_LIMIT.false)) (ap (λ r. r.count) (c.load.ensures.there (omega (arith, t, c.requires.1)))),

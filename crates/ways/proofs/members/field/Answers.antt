@@ -1,41 +1,46 @@
 -- `field`: one member after another. Assumes nothing.
 use mathlib.Core.Path.{sym}
 use native.Mathlib.Omega.{arith}
+use Rattle.std.proofs.lemmas.Result.{err_from_is_err_and}
 use Rattle.format.specs.Rows.{rows_in}
-use Rattle.ways.proofs.Fields.{going_start, going_refused, going_leaf, going_inside, going_next, outermost_below}
+use Rattle.ways.proofs.Fields.{going_start, going_refused, going_leaf, going_inside, going_next, top_inside, top_below}
 use Rattle.ways.proofs.members.field.Goals as goal
 
-pub loop-number-init : goal.loop-number-init
-unfolding rows_in
-loop-number-init c =
-    (going_start _ _ _ _ c.requires.0, c.requires.0, c.requires.1, c.requires.2, omega (arith, c.requires.0))
+pub loop-here-init : goal.loop-here-init
+loop-here-init c =
+    (going_start _ _ _ _ c.requires.0, c.requires.0, c.requires.1, tt)
 
-pub returns-in-Refused-clause-is : goal.returns-in-Refused-clause-is
-unfolding rows_in
-returns-in-Refused-clause-is c =
-    sym (going_refused _ _ _ _ _ _ _ c.loop-number.invariant.0 _ (rw c.in-Refused.is at c.advance.ensures))
+pub returns-in_err-here-clause-is : goal.returns-in_err-here-clause-is
+returns-in_err-here-clause-is c =
+    let p = err_from_is_err_and c.from_residual.result c.from_residual.ensures.1 in
+    rw (p.1, p.2) (sym (going_refused _ _ _ _ _ _ _ c.loop-here.invariant.0 _ (rw c.in_err-here.was at c.advance.ensures)))
 
 pub returns-in-Leaf-clause-is : goal.returns-in-Leaf-clause-is
-unfolding rows_in
 returns-in-Leaf-clause-is c =
-    let s = rw c.in-Leaf.is at c.advance.ensures in let i = c.loop-number.invariant in rw c.outermost.ensures (sym (going_leaf _ _ _ _ _ _ _ i.0 _ s))
+    let s = rw (c.in_ok-here.was, c.in-Leaf.is) at c.advance.ensures in
+    rw c.unwrap_or.ensures (sym (going_leaf _ _ _ _ _ _ _ c.loop-here.invariant.0 _ s))
 
 pub returns-in-Leaf-clause-bounds : goal.returns-in-Leaf-clause-bounds
-unfolding rows_in
 returns-in-Leaf-clause-bounds c =
-    let s = rw c.in-Leaf.is at c.advance.ensures in let i = c.loop-number.invariant in (s.2, rw c.outermost.ensures (outermost_below _ _ _ i.4 (omega (arith, s.1, s.2))))
+    let s = rw (c.in_ok-here.was, c.in-Leaf.is) at c.advance.ensures in
+    (s.2, rw c.unwrap_or.ensures (top_below _ _ _ c.loop-here.invariant.3 (omega (arith, s.1, s.2))))
 
 pub overflow_add-row : goal.overflow_add-row
 unfolding rows_in
 overflow_add-row c =
-    let s = rw c.in-Inside.is at c.advance.ensures in omega (arith, s.2)
+    let s = rw (c.in_ok-here.was, c.in-Inside.is) at c.advance.ensures in omega (arith, s.2)
 
-pub loop-number-preserved-in-Inside : goal.loop-number-preserved-in-Inside
-unfolding rows_in
-loop-number-preserved-in-Inside c =
-    let s = rw c.in-Inside.is at c.advance.ensures in let i = c.loop-number.invariant in (rw c.outermost-top.ensures (going_inside _ _ _ _ _ _ _ i.0 _ i.3 (omega (arith, s.1, s.2)) s), s.2, s.3, omega arith, rw c.outermost-top.ensures (outermost_below _ _ _ i.4 s.2))
+pub loop-here-preserved-in-Inside : goal.loop-here-preserved-in-Inside
+loop-here-preserved-in-Inside c =
+    let s = rw (c.in_ok-here.was, c.in-Inside.is) at c.advance.ensures in
+    let i = c.loop-here.invariant in (
+      rw c.or-top.ensures (going_inside _ _ _ _ _ _ _ i.0 _ (omega (arith, s.1, s.2)) s),
+      s.2,
+      s.3,
+      rw c.or-top.ensures (top_inside _ _ _ i.3 s.2),
+    )
 
-pub loop-number-preserved : goal.loop-number-preserved
-unfolding rows_in
-loop-number-preserved c =
-    let s = rw c.in-Next.is at c.advance.ensures in let i = c.loop-number.invariant in (going_next _ _ _ _ _ _ _ i.0 _ (omega (arith, s.1, s.2)) s, i.1, i.2, omega (arith, s.1), i.4)
+pub loop-here-preserved : goal.loop-here-preserved
+loop-here-preserved c =
+    let s = rw (c.in_ok-here.was, c.in-Next.is) at c.advance.ensures in
+    let i = c.loop-here.invariant in (going_next _ _ _ _ _ _ _ i.0 _ (omega (arith, s.1, s.2)) s, i.1, i.2, i.3)

@@ -9,7 +9,7 @@ unfolding member_from when◌then◌else◌
 returns-then-fits c =
     rw (← c.fits.ensures, c.if-fits.true) c.along_child.ensures
 
-pub returns : goal.returns
+pub returns-else-fits : goal.returns-else-fits
 unfolding member_from when◌then◌else◌
-returns c =
+returns-else-fits c =
     rw (← c.fits.ensures, c.if-fits.false) refl

@@ -1,0 +1,16 @@
+-- `alone`: a loop over tokens of one sort. Assumes nothing.
+use native.Mathlib.Omega.{arith}
+use Rattle.runs.proofs.MemberLaws.{running_start, running_turn, value_passed}
+use Rattle.runs.proofs.members.alone.Goals as goal
+
+pub loop-count-init : goal.loop-count-init
+loop-count-init g c =
+    running_start _ _ _ _ _ _ _ _ c.requires.here
+
+pub loop-count-preserved : goal.loop-count-preserved
+loop-count-preserved g c =
+    let p = c.put_alone in
+    let s = rw c.in-Some.is at (c.requires.stands _ _ (omega arith) c.end.ensures) in
+    let v = s.stands in
+    running_turn _ _ _ _ _ _ _ _ c.loop-count.invariant (omega arith) v.on s.inside (omega arith) (omega arith) p.auto.rows
+    (value_passed _ _ _ _ _ _ _ _ _ v (omega arith) p.ensures)
