@@ -34,10 +34,7 @@ fn signed(mark: Mark, n: u64) -> i64
 fn is_true(mark: u8, bytes: &[u8]) -> bool
     ensures { result ≡ eqb (get_or bytes.now 0 mark) 'T' }
 {
-    if bytes.len() == 0 {
-        return mark == Mark::TRUE;
-    }
-    bytes[0] == Mark::TRUE
+    *bytes.first().unwrap_or(&mark) == Mark::TRUE
 }
 
 // The value of bytes under a mark, no more of them than go with it.
