@@ -2,16 +2,16 @@
 #![tactic(auto)]
 
 mod answers;
-mod buffers;
 mod lists;
 mod names;
 mod runs;
 
 use lines::input::read_full;
+use memory::filled;
 use std::io;
 
 fn main(rt: HostRuntime) -> io::Result<()> {
-    let mut text = buffers::text();
+    let mut text = filled::<u8, 1310720>(0);
     let n = read_full(&mut rt.stdin(), &mut text)?;
     runs::all(&rt, &text[..n])
 }

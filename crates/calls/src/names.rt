@@ -1,5 +1,4 @@
 // The calls by name.
-use lines::numbers::stand_at;
 
 // A call of the library.
 #[derive(Clone, Copy)]
@@ -12,34 +11,21 @@ pub enum Call {
     TextAtRow,
     TextInTable,
     Lookup,
-    Unknown,
 }
 
 // The call whose name stands at a place, with a space after it.
-pub fn named(text: &[u8], at: usize) -> Call {
-    if stand_at(text, at, b"packed_slot ") {
-        return Call::PackedSlot;
+pub fn named(text: &[u8], at: usize) -> Option<Call> {
+    let rest = text.get(at..)?;
+    let end = rest.iter().position(|b| *b == b' ')?;
+    match &rest[..end] {
+        b"packed_slot" => Some(Call::PackedSlot),
+        b"table_slot" => Some(Call::TableSlot),
+        b"value_at_row" => Some(Call::ValueAtRow),
+        b"value_in_packed" => Some(Call::ValueInPacked),
+        b"value_in_table" => Some(Call::ValueInTable),
+        b"text_at_row" => Some(Call::TextAtRow),
+        b"text_in_table" => Some(Call::TextInTable),
+        b"lookup" => Some(Call::Lookup),
+        _ => None,
     }
-    if stand_at(text, at, b"table_slot ") {
-        return Call::TableSlot;
-    }
-    if stand_at(text, at, b"value_at_row ") {
-        return Call::ValueAtRow;
-    }
-    if stand_at(text, at, b"value_in_packed ") {
-        return Call::ValueInPacked;
-    }
-    if stand_at(text, at, b"value_in_table ") {
-        return Call::ValueInTable;
-    }
-    if stand_at(text, at, b"text_at_row ") {
-        return Call::TextAtRow;
-    }
-    if stand_at(text, at, b"text_in_table ") {
-        return Call::TextInTable;
-    }
-    if stand_at(text, at, b"lookup ") {
-        return Call::Lookup;
-    }
-    Call::Unknown
 }

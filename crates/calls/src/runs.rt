@@ -1,67 +1,66 @@
 // The lines of the input: a call's name, the message, the row words, and the row, leaf, indexes and name that are asked for.
-use crate::lists::{list, row_words};
+use crate::lists::{NUMBERS, list, row_words};
 use crate::names::{Call, named};
-use crate::{answers, buffers, lists};
+use crate::{answers, lists};
 use addresses::calls::{packed_slot, table_slot};
-use lines::numbers::{decimal, least, past};
-use lines::show::bytes;
+use lines::numbers::{decimal, past};
 use lines::words::word;
 use lookup::lookup;
+use memory::filled;
 use slots::text::{number_in_table, text_in_table};
 use slots::value::{value_in_packed, value_in_table};
 use std::io;
 use texts::at_rows::{number_at_row, text_at_row};
 use values::at_rows::value_at_row;
 
-// What is asked for beside indexes and a name: a call, its row, and its leaf row.
+// The most bytes of a message or a name.
+const BYTES: usize = 4096;
+
+// The most words of rows, for 64 of them.
+const WORDS: usize = 640;
+
+// What is asked for: a call, its row, its leaf row, its indexes and a name.
 #[derive(Clone, Copy)]
-struct Asked {
-    call: Call,
+struct Asked<'a> {
+    call: Option<Call>,
     row: usize,
     leaf: usize,
+    indexes: &'a [usize],
+    name: &'a [u8],
 }
 
 // Calls what is asked for.
-fn answer(
-    rt: &impl Print,
-    message: &[u8],
-    rows: &[u32],
-    asked: Asked,
-    indexes: &[usize],
-    name: &[u8],
-) -> io::Result<()> {
-    let call = asked.call;
-    let row = asked.row;
-    let leaf = asked.leaf;
+fn answer(rt: &impl Print, message: &[u8], rows: &[u32], asked: Asked<'_>) -> io::Result<()> {
+    let Asked {
+        call,
+        row,
+        leaf,
+        indexes,
+        name,
+    } = asked;
     let size = lists::word(message.len());
     match call {
-        Call::PackedSlot => answers::located(rt, packed_slot(rows, size, row, indexes))?,
-        Call::TableSlot => answers::located(rt, table_slot(rows, size, row, leaf, indexes))?,
-        Call::ValueAtRow => answers::valued(rt, value_at_row(message, rows, row))?,
-        Call::ValueInPacked => answers::valued(rt, value_in_packed(message, rows, row, indexes))?,
-        Call::ValueInTable => answers::valued(
-            rt,
-            value_in_table(message, rows, row, leaf, indexes),
-        )?,
-        Call::TextAtRow => {
+        Some(Call::PackedSlot) => answers::located(rt, packed_slot(rows, size, row, indexes)),
+        Some(Call::TableSlot) => answers::located(rt, table_slot(rows, size, row, leaf, indexes)),
+        Some(Call::ValueAtRow) => answers::valued(rt, value_at_row(message, rows, row)),
+        Some(Call::ValueInPacked) => {
+            answers::valued(rt, value_in_packed(message, rows, row, indexes))
+        }
+        Some(Call::ValueInTable) => {
+            answers::valued(rt, value_in_table(message, rows, row, leaf, indexes))
+        }
+        Some(Call::TextAtRow) => {
             let part = text_at_row(message, rows, row);
-            answers::text(rt, message, number_at_row(message, rows, row), part)?;
+            answers::text(rt, message, number_at_row(message, rows, row), part)
         }
-        Call::TextInTable => {
+        Some(Call::TextInTable) => {
             let part = text_in_table(message, rows, row, leaf, indexes);
-            answers::text(
-                rt,
-                message,
-                number_in_table(message, rows, row, leaf, indexes),
-                part,
-            )?;
+            let number = number_in_table(message, rows, row, leaf, indexes);
+            answers::text(rt, message, number, part)
         }
-        Call::Lookup => answers::found(rt, lookup(message, rows, row, name))?,
-        Call::Unknown => {
-            bytes(rt, b"no such call")?;
-        }
+        Some(Call::Lookup) => answers::found(rt, lookup(message, rows, row, name)),
+        None => print!(rt; "no such call"),
     }
-    bytes(rt, b"\n")
 }
 
 // The row, the leaf, the indexes and the name from a place on.
@@ -69,7 +68,7 @@ fn ask(
     rt: &impl Print,
     text: &[u8],
     at: usize,
-    call: Call,
+    call: Option<Call>,
     message: &[u8],
     rows: &[u32],
 ) -> io::Result<()> {
@@ -77,27 +76,29 @@ fn ask(
     let second = past(text, at, b' ');
     let leaf = decimal(text, second);
     let third = past(text, second, b' ');
-    let mut indexes = buffers::numbers();
+    let mut indexes = filled::<usize, NUMBERS>(0);
     let n = list(text, third, &mut indexes);
-    let mut name = buffers::bytes();
+    let mut name = filled::<u8, BYTES>(0);
     let w = word(text, past(text, third, b' '), &mut name, 0);
-    let k = least(w.value, 4096);
     let asked = Asked {
-        call: call,
+        call,
         row: row.value,
         leaf: leaf.value,
+        indexes: &indexes[..n],
+        name: &name[..w.value.min(BYTES)],
     };
-    answer(rt, message, rows, asked, &indexes[..n], &name[..k])
+    answer(rt, message, rows, asked)?;
+    rt.println("")
 }
 
 // One line.
 fn one(rt: &impl Print, text: &[u8], at: usize) -> io::Result<()> {
     let first = past(text, at, b' ');
-    let mut message = buffers::bytes();
+    let mut message = filled::<u8, BYTES>(0);
     let w = word(text, first, &mut message, 0);
-    let n = least(w.value, 4096);
+    let n = w.value.min(BYTES);
     let second = past(text, first, b' ');
-    let mut rows = buffers::rows();
+    let mut rows = filled::<u32, WORDS>(0);
     let k = row_words(text, second, &mut rows);
     let third = past(text, second, b' ');
     ask(rt, text, third, named(text, at), &message[..n], &rows[..k])

@@ -1,95 +1,59 @@
-// Answers, and whether two are the same.
+// Answers, and what goes with them.
 use format::answers::Answer;
 use format::marks::Mark;
+use std::fmt;
 
 // An answer as numbers: number, place and rows used.
-#[derive(Clone, Copy)]
+#[derive(Clone, Copy, PartialEq, Eq)]
 pub struct Numbers {
     pub number: u32,
     pub place: usize,
     pub used: usize,
 }
 
-// The numbers of an answer.
-pub fn numbers_of(a: Answer) -> Numbers {
-    match a {
-        Answer::Done(used) => Numbers {
-            number: 0,
-            place: 0,
-            used: used,
-        },
-        Answer::Refused(number, place) => Numbers {
-            number: number,
-            place: place,
-            used: 0,
-        },
-    }
-}
-
-// Two answers that are compared, and the place where it is counted that they differ.
-#[derive(Clone, Copy)]
-pub struct Compared {
-    pub sort: usize,
-    pub a: Numbers,
-    pub b: Numbers,
-}
-
-impl Compared {
-    pub fn new(sort: usize, a: Numbers, b: Numbers) -> Compared {
-        Compared {
-            sort: sort,
-            a: a,
-            b: b,
+impl From<Answer> for Numbers {
+    // The numbers of an answer.
+    fn from(a: Answer) -> Numbers {
+        match a {
+            Answer::Done(used) => Numbers {
+                number: 0,
+                place: 0,
+                used,
+            },
+            Answer::Refused(number, place) => Numbers {
+                number,
+                place,
+                used: 0,
+            },
         }
     }
 }
 
-// Whether an answer refuses a byte of the message that is an `E`.
-pub fn is_extension_refused(message: &[u8], a: Numbers) -> bool {
-    a.number == 3 && byte(message, a.place) == Mark::EXTENSION
+impl fmt::Display for Numbers {
+    // The numbers in words.
+    fn fmt<W: fmt::Write>(&self, f: &mut fmt::Formatter<W>) -> fmt::Result {
+        let number = self.number;
+        let place = self.place;
+        let used = self.used;
+        write!(f, "{number} at {place}, rows {used};")
+    }
 }
 
-// Whether two answers are the same.
-pub fn same(a: Numbers, b: Numbers) -> bool {
-    a.number == b.number && a.place == b.place && a.used == b.used
+impl Numbers {
+    // Whether the message is accepted.
+    pub fn is_accepted(self) -> bool {
+        self.number == 0
+    }
+
+    // Whether a byte of the message is refused that is an `E`.
+    pub fn refuses_extension(self, message: &[u8]) -> bool {
+        self.number == 3 && message.get(self.place).copied() == Some(Mark::EXTENSION)
+    }
 }
 
-// Whether two tables have the same words.
-pub fn same_words(a: &[u32], b: &[u32]) -> bool {
-    if a.len() != b.len() {
-        return false;
-    }
-    let mut i: usize = 0;
-    while i < a.len() {
-        if word(a, i) != word(b, i) {
-            return false;
-        }
-        i += 1;
-    }
-    true
-}
-
-// The byte at a place; 0 where there is none.
-fn byte(bytes: &[u8], i: usize) -> u8 {
-    if i < bytes.len() {
-        return bytes[i];
-    }
-    0
-}
-
-// The word at a place; 0 where there is none.
-pub fn word(words: &[u32], i: usize) -> u32 {
-    if i < words.len() {
-        return words[i];
-    }
-    0
-}
-
-// Fills the words before a call: where a reader leaves one, it shows.
-pub fn fill(words: &mut [u32], with: u32) {
-    let mut i: usize = 0;
-    while i < words.len() {
-        words[i] = with;
-        i += 1;
-    }
+// What a reader gives: its answer, and the lent words as it left them.
+#[derive(Clone, Copy, PartialEq, Eq)]
+pub struct Reading<'a> {
+    pub answer: Numbers,
+    pub words: &'a [u32],
 }

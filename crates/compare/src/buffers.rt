@@ -21,10 +21,3 @@ pub fn rows() -> [u32; 20490]
 {
     [0; 20490]
 }
-
-// For what is counted.
-pub fn counts() -> [u64; 64]
-    ensures { 64 ≡ length result }
-{
-    [0; 64]
-}

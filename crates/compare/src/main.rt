@@ -12,11 +12,6 @@ mod tally;
 use std::io;
 
 fn main(rt: HostRuntime) -> io::Result<()> {
-    let mut counts = buffers::counts();
-    let mut message = buffers::message();
-    let mut first = buffers::rows();
-    let mut other = buffers::rows();
-    message_runs::all(&rt, &mut message, &mut first, &mut other, &mut counts)?;
-    message_runs::long(&rt, &mut first, &mut other, &mut counts)?;
-    show::summary(&rt, &counts)
+    let tally = message_runs::all(&rt)?;
+    show::summary(&rt, &tally)
 }

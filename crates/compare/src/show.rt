@@ -1,185 +1,83 @@
 // What is written: where the readers differ, and the summary.
-use crate::answers::{Compared, Numbers};
-use crate::tally;
+use crate::answers::Numbers;
+use crate::message_runs::Message;
+use crate::tally::{Pair, Tally};
 use std::io;
 
-// Bytes as they are.
-fn text(rt: &impl Print, bytes: &[u8]) -> io::Result<()> {
-    rt.write_all(bytes)
-}
-
-// A line of a count: a name and a number.
-fn line(rt: &impl Print, name: &[u8], n: u64) -> io::Result<()> {
-    rt.write_all(name)?;
-    rt.write_all(b": ")?;
-    rt.print(n)?;
-    rt.write_all(b"\n")
-}
-
-// A line for each number from the first on, before the end; its count stands so many places after the place given.
-fn lines(
-    rt: &impl Print,
-    name: &[u8],
-    counts: &[u64],
-    place: usize,
-    first: usize,
-    end: usize,
-) -> io::Result<()> {
-    let mut n = first;
-    while n < end {
-        rt.write_all(name)?;
-        rt.write_all(b" ")?;
-        rt.print(n as u64)?;
-        line(
-            rt,
-            b"",
-            tally::count(counts, std::num::wrapping_add_usize(place, n)),
-        )?;
-        n += 1;
+// A line for each count, with its number; the first has the number given.
+fn lines(rt: &impl Print, name: &str, counts: &[u64], first: u32) -> io::Result<()> {
+    for (number, count) in (first..).zip(counts) {
+        println!(rt; "{name} {number}: {count}")?;
     }
     Ok(())
+}
+
+// What is counted of the new edition's answers.
+fn answers(rt: &impl Print, tally: &Tally) -> io::Result<()> {
+    let messages = tally.messages;
+    let accepted = tally.numbers[0];
+    println!(rt; "messages: {messages}")?;
+    println!(rt; "accepted: {accepted}")?;
+    lines(rt, "refused with", &tally.numbers[1..10], 1)?;
+    lines(rt, "refused with", &tally.numbers[13..14], 13)
+}
+
+// What is counted of the rows of the messages that the new edition accepts.
+fn features(rt: &impl Print, tally: &Tally) -> io::Result<()> {
+    let slowest = tally.slowest;
+    let fastest = tally.fastest;
+    let by_columns = tally.by_columns;
+    lines(rt, "accepted, with a row of kind", &tally.kinds[1..], 1)?;
+    println!(rt; "accepted, with dimensions, first index slowest: {slowest}")?;
+    println!(rt; "accepted, with dimensions, first index fastest: {fastest}")?;
+    println!(rt; "accepted, with a table by columns: {by_columns}")
 }
 
 // What is counted of the two editions.
-fn editions(rt: &impl Print, counts: &[u64]) -> io::Result<()> {
-    line(
-        rt,
-        b"accepted by the old edition",
-        tally::count(counts, tally::OLD_ACCEPTED),
-    )?;
-    line(
-        rt,
-        b"refused by the old edition",
-        tally::count(counts, tally::OLD_REFUSED),
-    )?;
-    line(
-        rt,
-        b"of these with 3 at an E",
-        tally::count(counts, tally::AT_EXTENSION),
-    )?;
-    line(
-        rt,
-        b"of these accepted by the new edition",
-        tally::count(counts, tally::NEW_ACCEPTED),
-    )
+fn editions(rt: &impl Print, tally: &Tally) -> io::Result<()> {
+    let accepted = tally.old_accepted;
+    let refused = tally.old_refused;
+    let extension = tally.at_extension;
+    let again = tally.new_accepted;
+    println!(rt; "accepted by the old edition: {accepted}")?;
+    println!(rt; "refused by the old edition: {refused}")?;
+    println!(rt; "of these with 3 at an E: {extension}")?;
+    println!(rt; "of these accepted by the new edition: {again}")
 }
 
 // The faults.
-fn faults(rt: &impl Print, counts: &[u64]) -> io::Result<()> {
-    line(
-        rt,
-        b"different, the readers by the new edition",
-        tally::count(counts, tally::BY_NEW),
-    )?;
-    line(
-        rt,
-        b"different, the readers by the old edition",
-        tally::count(counts, tally::BY_OLD),
-    )?;
-    line(
-        rt,
-        b"different, the editions but at an E",
-        tally::count(counts, tally::EDITIONS),
-    )
+fn faults(rt: &impl Print, tally: &Tally) -> io::Result<()> {
+    let new = tally.new;
+    let old = tally.old;
+    let editions = tally.editions;
+    println!(rt; "different, the readers by the new edition: {new}")?;
+    println!(rt; "different, the readers by the old edition: {old}")?;
+    println!(rt; "different, the editions but at an E: {editions}")
 }
 
 // The summary.
-pub fn summary(rt: &impl Print, counts: &[u64]) -> io::Result<()> {
-    line(rt, b"messages", tally::count(counts, tally::MESSAGES))?;
-    line(rt, b"accepted", tally::count(counts, tally::BY_NUMBER))?;
-    lines(rt, b"refused with", counts, tally::BY_NUMBER, 1, 10)?;
-    lines(rt, b"refused with", counts, tally::BY_NUMBER, 13, 14)?;
-    lines(
-        rt,
-        b"accepted, with a row of kind",
-        counts,
-        tally::BY_KIND,
-        1,
-        14,
-    )?;
-    line(
-        rt,
-        b"accepted, with dimensions, first index slowest",
-        tally::count(counts, tally::BY_KIND + 16),
-    )?;
-    line(
-        rt,
-        b"accepted, with dimensions, first index fastest",
-        tally::count(counts, tally::BY_KIND + 17),
-    )?;
-    line(
-        rt,
-        b"accepted, with a table by columns",
-        tally::count(counts, tally::BY_KIND + 18),
-    )?;
-    line(
-        rt,
-        b"checksum of answers and rows",
-        tally::count(counts, tally::CHECKSUM),
-    )?;
-    editions(rt, counts)?;
-    faults(rt, counts)
-}
-
-// A hex digit.
-fn digit(n: u8) -> u8 {
-    let d = n % 16;
-    if d < 10 {
-        return d + b'0';
-    }
-    d - 10 + b'a'
-}
-
-// The bytes of a message, in hex.
-fn hex(rt: &impl Print, message: &[u8]) -> io::Result<()> {
-    let mut i: usize = 0;
-    while i < message.len() {
-        let b = message[i];
-        let pair = [digit(b / 16), digit(b)];
-        rt.write_all(&pair)?;
-        i += 1;
-    }
-    Ok(())
-}
-
-// An answer.
-fn answer(rt: &impl Print, a: Numbers) -> io::Result<()> {
-    rt.write_all(b" ")?;
-    rt.print(a.number as u64)?;
-    rt.write_all(b" at ")?;
-    rt.print(a.place as u64)?;
-    rt.write_all(b", rows ")?;
-    rt.print(a.used as u64)?;
-    rt.write_all(b";")
-}
-
-// What is compared.
-fn sort(rt: &impl Print, place: usize) -> io::Result<()> {
-    match place {
-        tally::BY_NEW => text(rt, b"new edition"),
-        tally::BY_OLD => text(rt, b"old edition"),
-        _ => text(rt, b"editions"),
-    }
+pub fn summary(rt: &impl Print, tally: &Tally) -> io::Result<()> {
+    let checksum = tally.checksum;
+    answers(rt, tally)?;
+    features(rt, tally)?;
+    println!(rt; "checksum of answers and rows: {checksum}")?;
+    editions(rt, tally)?;
+    faults(rt, tally)
 }
 
 // A message for which two answers differ: what was compared, its number, the words lent, its bytes, both answers.
 pub fn different(
     rt: &impl Print,
-    number: u64,
+    message: Message<'_>,
+    pair: Pair,
     words: usize,
-    message: &[u8],
-    c: Compared,
+    a: Numbers,
+    b: Numbers,
 ) -> io::Result<()> {
-    rt.write_all(b"different, ")?;
-    sort(rt, c.sort)?;
-    rt.write_all(b": message ")?;
-    rt.print(number)?;
-    rt.write_all(b", words ")?;
-    rt.print(words as u64)?;
-    rt.write_all(b":")?;
-    answer(rt, c.a)?;
-    answer(rt, c.b)?;
-    rt.write_all(b" ")?;
-    hex(rt, message)?;
-    rt.write_all(b"\n")
+    let number = message.number;
+    print!(rt; "different, {pair}: message {number}, words {words}: {a} {b} ")?;
+    for byte in message.bytes {
+        print!(rt; "{byte:02x}")?;
+    }
+    println!(rt;)
 }

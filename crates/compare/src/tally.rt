@@ -1,181 +1,204 @@
-// What is counted. Places in the list: how many messages; the faults, where the readers differ by the new edition or by the old, or
-// the editions differ; the answers' checksum; of the old edition the accepted messages, the refused ones, those refused at an `E`, and
-// those of these that the new edition accepts; from 16 on the new edition's answers by number; from 32 on its accepted messages by what
-// their rows have.
-use crate::answers::{Numbers, word};
+// What is counted.
+use crate::answers::{Numbers, Reading};
 use rows::ROW_WORDS;
+use std::fmt;
 
-pub const MESSAGES: usize = 0;
+// The places of the numbers of answers: 0 to 13, and the last for any other.
+const NUMBERS: usize = 15;
 
-pub const BY_NEW: usize = 1;
+// The places of the numbers of kinds, which are 1 to 13.
+const KINDS: usize = 14;
 
-pub const BY_OLD: usize = 2;
+// The kind and the mark of a table by columns.
+const TABLE: u32 = 8;
 
-pub const EDITIONS: usize = 3;
+const BY_COLUMNS: u32 = 123;
 
-pub const CHECKSUM: usize = 4;
-
-pub const OLD_ACCEPTED: usize = 5;
-
-pub const OLD_REFUSED: usize = 6;
-
-pub const AT_EXTENSION: usize = 7;
-
-pub const NEW_ACCEPTED: usize = 8;
-
-pub const BY_NUMBER: usize = 16;
-
-pub const BY_KIND: usize = 32;
-
-// What a row may have beside a kind from 1 to 13: the orders, and a table by columns.
-const SLOWEST: u32 = 16;
-
-const FASTEST: u32 = 17;
-
-const BY_COLUMNS: u32 = 18;
-
-// The number after these.
-const BITS: u32 = 19;
-
-// The count at a place.
-pub fn count(counts: &[u64], at: usize) -> u64 {
-    if at < counts.len() {
-        return counts[at];
-    }
-    0
+// What is compared: the readers by the new edition or by the old one, or the editions.
+#[derive(Clone, Copy, PartialEq, Eq)]
+pub enum Pair {
+    New,
+    Old,
+    Editions,
 }
 
-// Stores a count.
-fn set(counts: &mut [u64], at: usize, n: u64) {
-    if at < counts.len() {
-        counts[at] = n;
+impl fmt::Display for Pair {
+    // What is compared, in words.
+    fn fmt<W: fmt::Write>(&self, f: &mut fmt::Formatter<W>) -> fmt::Result {
+        match self {
+            Pair::New => write!(f, "new edition"),
+            Pair::Old => write!(f, "old edition"),
+            Pair::Editions => write!(f, "editions"),
+        }
     }
 }
 
-// One more at a place.
-pub fn add(counts: &mut [u64], at: usize) {
-    let n = count(counts, at);
-    set(counts, at, std::num::wrapping_add_u64(n, 1));
+// What some row of a message has: the kinds by their numbers, an order of dimensions, a table by columns.
+#[derive(Clone, Copy)]
+struct Features {
+    kinds: [bool; KINDS],
+    slowest: bool,
+    fastest: bool,
+    by_columns: bool,
+}
+
+impl Features {
+    // Of no row.
+    const NONE: Features = Features {
+        kinds: [false; KINDS],
+        slowest: false,
+        fastest: false,
+        by_columns: false,
+    };
+
+    // With what one more row has.
+    fn add(&mut self, row: &[u32]) {
+        let [kind, mark, _, _, _, _, _, order, ..] = row else {
+            return;
+        };
+        if let Some(has) = self.kinds.get_mut(*kind as usize) {
+            *has = true;
+        }
+        self.slowest |= *order == 1;
+        self.fastest |= *order == 2;
+        self.by_columns |= *kind == TABLE && *mark == BY_COLUMNS;
+    }
+
+    // What the rows of a reading have.
+    fn of(reading: Reading<'_>) -> Features {
+        let mut features = Features::NONE;
+        for row in reading
+            .words
+            .chunks_exact(ROW_WORDS)
+            .take(reading.answer.used)
+        {
+            features.add(row);
+        }
+        features
+    }
+}
+
+// One more.
+fn count(n: &mut u64) {
+    *n = n.wrapping_add(1);
+}
+
+// One more, if a condition holds.
+fn count_if(n: &mut u64, holds: bool) {
+    if holds {
+        count(n);
+    }
 }
 
 // A checksum with one number more.
 fn mixed(sum: u64, n: u64) -> u64 {
-    std::num::wrapping_add_u64((sum << 7) ^ (sum >> 9), n)
+    ((sum << 7) ^ (sum >> 9)).wrapping_add(n)
 }
 
-// The checksum with the words of so many rows more.
-fn mixed_words(sum: u64, rows: &[u32], used: usize) -> u64 {
-    let mut mix = sum;
-    let mut i: usize = 0;
-    while i < rows.len() && i / ROW_WORDS < used {
-        mix = mixed(mix, word(rows, i) as u64);
-        i += 1;
+// A checksum with an answer and its rows more.
+fn mixed_reading(sum: u64, reading: Reading<'_>) -> u64 {
+    let a = reading.answer;
+    let number = mixed(sum, u64::from(a.number));
+    let used = mixed(mixed(number, a.place as u64), a.used as u64);
+    reading
+        .words
+        .iter()
+        .take(a.used.saturating_mul(ROW_WORDS))
+        .fold(used, |sum, word| mixed(sum, u64::from(*word)))
+}
+
+// The counts.
+#[derive(Clone, Copy)]
+pub struct Tally {
+    pub messages: u64,
+    // How often there was a difference: between the readers by the new edition or by the old one, or between the editions.
+    pub new: u64,
+    pub old: u64,
+    pub editions: u64,
+    // The checksum of the answers and their rows.
+    pub checksum: u64,
+    // By the old edition the accepted messages, the refused ones, those refused at an `E`, and those of these that the new edition
+    // accepts.
+    pub old_accepted: u64,
+    pub old_refused: u64,
+    pub at_extension: u64,
+    pub new_accepted: u64,
+    // The new edition's answers by their numbers.
+    pub numbers: [u64; NUMBERS],
+    // The messages that the new edition accepts, by what some row of them has.
+    pub kinds: [u64; KINDS],
+    pub slowest: u64,
+    pub fastest: u64,
+    pub by_columns: u64,
+}
+
+impl Tally {
+    // Before the first message.
+    pub fn new() -> Tally {
+        Tally {
+            messages: 0,
+            new: 0,
+            old: 0,
+            editions: 0,
+            checksum: 0,
+            old_accepted: 0,
+            old_refused: 0,
+            at_extension: 0,
+            new_accepted: 0,
+            numbers: [0; NUMBERS],
+            kinds: [0; KINDS],
+            slowest: 0,
+            fastest: 0,
+            by_columns: 0,
+        }
     }
-    mix
-}
 
-// The checksum with an answer and its rows more.
-fn checksum(sum: u64, a: Numbers, rows: &[u32]) -> u64 {
-    let number = mixed(sum, a.number as u64);
-    let place = mixed(number, a.place as u64);
-    mixed_words(mixed(place, a.used as u64), rows, a.used)
-}
-
-// One bit of 32.
-fn bit(n: u32) -> u32 {
-    1 << (n % 32)
-}
-
-// A bit if a condition holds.
-fn bit_if(holds: bool, n: u32) -> u32 {
-    if holds {
-        return bit(n);
+    // Counts a difference.
+    pub fn add_difference(&mut self, pair: Pair) {
+        match pair {
+            Pair::New => count(&mut self.new),
+            Pair::Old => count(&mut self.old),
+            Pair::Editions => count(&mut self.editions),
+        }
     }
-    0
-}
 
-// What a row has, as bits.
-fn row_bits(rows: &[u32], row: usize) -> u32 {
-    if rows.len() / ROW_WORDS <= row {
-        return 0;
+    // Takes a reading into the checksum.
+    fn mix(&mut self, reading: Reading<'_>) {
+        self.checksum = mixed_reading(self.checksum, reading);
     }
-    let at = row * ROW_WORDS;
-    let kind = word(rows, at);
-    let order = word(rows, at + 7);
-    let columns = kind == 8 && word(rows, at + 1) == 123;
-    bit(kind)
-        | bit_if(order == 1, SLOWEST)
-        | bit_if(order == 2, FASTEST)
-        | bit_if(columns, BY_COLUMNS)
-}
 
-// What some row has, as bits.
-fn all_bits(rows: &[u32], used: usize) -> u32 {
-    let mut bits: u32 = 0;
-    let mut row: usize = 0;
-    while row < used {
-        bits = bits | row_bits(rows, row);
-        row += 1;
+    // Counts a reading by the old edition.
+    pub fn add_old(&mut self, reading: Reading<'_>) {
+        let accepted = reading.answer.is_accepted();
+        count_if(&mut self.old_accepted, accepted);
+        count_if(&mut self.old_refused, !accepted);
+        self.mix(reading);
     }
-    bits
-}
 
-// One more at the place of a thing, if it is among the bits.
-fn add_if(counts: &mut [u64], bits: u32, n: u32) {
-    if bits & bit(n) != 0 {
-        add(counts, BY_KIND + (n % 32) as usize);
+    // Counts a message that the old edition refuses at an `E`, with the answer by the new one.
+    pub fn add_extension(&mut self, answer: Numbers) {
+        count(&mut self.at_extension);
+        count_if(&mut self.new_accepted, answer.is_accepted());
     }
-}
 
-// Counts an accepted message under each thing that a row of it has.
-fn add_bits(counts: &mut [u64], bits: u32) {
-    let mut n: u32 = 1;
-    while n < BITS {
-        add_if(counts, bits, n);
-        n += 1;
+    // Counts what the rows of a message have.
+    fn add_features(&mut self, features: Features) {
+        for (n, has) in self.kinds.iter_mut().zip(features.kinds.iter()) {
+            count_if(n, *has);
+        }
+        count_if(&mut self.slowest, features.slowest);
+        count_if(&mut self.fastest, features.fastest);
+        count_if(&mut self.by_columns, features.by_columns);
     }
-}
 
-// The place of an answer's number.
-fn by_number(number: u32) -> usize {
-    if number < 14 {
-        return BY_NUMBER + number as usize;
+    // Counts a reading by the new edition.
+    pub fn add_new(&mut self, reading: Reading<'_>) {
+        count(&mut self.messages);
+        let number = reading.answer.number as usize;
+        if let Some(n) = self.numbers.get_mut(number.min(NUMBERS - 1)) {
+            count(n);
+        }
+        self.add_features(Features::of(reading));
+        self.mix(reading);
     }
-    BY_NUMBER + 14
-}
-
-// Takes an answer and its rows into the checksum.
-fn mix(counts: &mut [u64], a: Numbers, rows: &[u32]) {
-    let sum = checksum(count(counts, CHECKSUM), a, rows);
-    set(counts, CHECKSUM, sum);
-}
-
-// The place of an answer by the old edition.
-fn by_verdict(number: u32) -> usize {
-    if number == 0 {
-        return OLD_ACCEPTED;
-    }
-    OLD_REFUSED
-}
-
-// Counts an answer by the old edition.
-pub fn add_old(counts: &mut [u64], a: Numbers, rows: &[u32]) {
-    add(counts, by_verdict(a.number));
-    mix(counts, a, rows);
-}
-
-// Counts a message that the old edition refuses at an `E`, with the answer by the new one.
-pub fn add_extension(counts: &mut [u64], a: Numbers) {
-    add(counts, AT_EXTENSION);
-    if a.number == 0 {
-        add(counts, NEW_ACCEPTED);
-    }
-}
-
-// Counts an answer by the new edition.
-pub fn add_answer(counts: &mut [u64], a: Numbers, rows: &[u32]) {
-    add(counts, MESSAGES);
-    add(counts, by_number(a.number));
-    add_bits(counts, all_bits(rows, a.used));
-    mix(counts, a, rows);
 }

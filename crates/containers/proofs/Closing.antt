@@ -1,12 +1,10 @@
 -- An array's or object's row over what it holds. Assumes nothing.
-use Prim.Native.Nat.{ℕ, ◌+◌, ◌-◌, ◌≤◌}
+use Prim.Native.Nat.{ℕ, ◌+◌, ◌-◌}
 use mathlib.Core.Path.{◌≡◌, refl, ◌∙◌}
 use mathlib.Core.List.{List}
-use native.Mathlib.Omega.{arith}
 use native.Mathlib.Nat.{add-zero}
 use Rattle.format.specs.Conditions.{when◌then◌else◌}
 use Rattle.format.specs.Outcome.{Outcome, Parsed, fault, done, ◌>>=◌}
-use Rattle.format.specs.Limits.{limit}
 use Rattle.format.specs.Marks.{Opening, bracket, brace, opens}
 use Rattle.format.specs.Tokens.{Token, is_kind, plain_count, Forest, none, node, members}
 use Rattle.format.specs.Rows.{Ancestry, held_by, row_of}
@@ -16,8 +14,7 @@ use Rattle.format.specs.Containers.{container_kind, container, counted}
 use Rattle.rows.specs.Row.{store}
 use Rattle.tokens.specs.Answers.{Laid}
 use Rattle.tokens.proofs.Laying.{laid_over}
-use Rattle.tokens.specs.declared.Members.{Members}
-use Rattle.containers.specs.Lists.{closed, ListEnds}
+use Rattle.containers.specs.Lists.{closed}
 
 -- its token, where what it holds ends at `end` and has so many members
 abbrev pub holder : Opening → ℕ → ℕ → ℕ → ℕ → Token
@@ -36,10 +33,6 @@ unfolding closed ◌>>=◌ container
 laid_closed opening at start shut o row count end row' ancestry before mid now l e =
     let r = laid_over (holder opening at start end count) o row count end row' (end + shut) ancestry before mid now l e in
     rw (l.read, l.counted) (rw (one_member opening at start end count l.forest) at r)
-
--- there is a row for each byte at most, so rows up to the limit are rows enough
-pub list_cap : (l : Members) (low high lent : ℕ) → high ≤ limit → ListEnds low high lent l → ListEnds low limit limit l
-list_cap l low high lent h w = omega arith
 
 -- ---- a counted container
 

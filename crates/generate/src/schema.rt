@@ -1,55 +1,87 @@
-// Schemas. What their leaves are is kept in a list, for the payload that follows: an entry is a leaf's mark, its bytes, its field.
+// Schemas. What their leaves are is kept, for the payload that follows.
+use crate::brackets::Bracket;
 use crate::integers::integer;
-use crate::numbers::{less, low, more, number, set, small};
-use crate::pen::{Pen, letter};
+use crate::nest::{Nest, Open};
+use crate::numbers::small;
+use crate::page::Page;
 use crate::token;
 use format::marks::Mark;
 
-// The length of the list of leaves, and of the list of open brackets: an entry of that is the mark, and the members left to write.
-pub const LEAVES: usize = 150;
-
-pub const GROUPS: usize = 36;
+// The most leaves of a schema; no message has so many.
+const LEAVES: usize = 50;
 
 // The steps in which a schema is written.
 const STEPS: u32 = 120;
 
-// The mark of a leaf.
-pub fn mark_of(leaves: &[u32], leaf: u32) -> u8 {
-    low(number(leaves, leaf, 0))
+// The most levels, unless faults are written.
+const LEVELS: usize = 8;
+
+// The leaves from which on no record and no fixed array is opened.
+const MANY: usize = 12;
+
+// A leaf: its mark, its bytes, and the field that it belongs to.
+#[derive(Clone, Copy)]
+pub struct Leaf {
+    pub mark: u8,
+    pub bytes: u32,
+    pub field: u32,
 }
 
-// The bytes of a leaf.
-pub fn bytes_of(leaves: &[u32], leaf: u32) -> u32 {
-    number(leaves, leaf, 1)
+// No leaf.
+const NONE: Leaf = Leaf {
+    mark: 0,
+    bytes: 0,
+    field: 0,
+};
+
+// A schema as far as it is written: its leaves, its fields, and the bytes of its record. There is no heap, so the list of leaves is
+// fixed and its length stands beside it.
+#[derive(Drop)]
+pub struct Schema {
+    list: [Leaf; LEAVES],
+    many: usize,
+    pub fields: u32,
+    pub bytes: u32,
 }
 
-// The field that a leaf belongs to.
-pub fn field_of(leaves: &[u32], leaf: u32) -> u32 {
-    number(leaves, leaf, 2)
-}
+impl Schema {
+    // Before the first field.
+    fn new() -> Schema {
+        Schema {
+            list: [NONE; LEAVES],
+            many: 0,
+            fields: 0,
+            bytes: 0,
+        }
+    }
 
-// Keeps a leaf in the list.
-fn keep(leaves: &mut [u32], pen: Pen, mark: u8, bytes: u32) -> Pen {
-    set(leaves, pen.leaves, 0, mark as u32);
-    set(leaves, pen.leaves, 1, bytes);
-    set(leaves, pen.leaves, 2, pen.fields);
-    let mut after = pen;
-    after.leaves = more(pen.leaves, 1);
-    after.bytes = more(pen.bytes, bytes);
-    after
+    // The leaves.
+    pub fn leaves(&self) -> &[Leaf] {
+        self.list.get(..self.many).unwrap_or_default()
+    }
+
+    // Keeps a leaf.
+    fn keep(&mut self, mark: u8, bytes: u32) {
+        let field = self.fields;
+        let many = self.many;
+        if let Some(next) = self.list.get_mut(many) {
+            *next = Leaf { mark, bytes, field };
+        }
+        self.many = many.saturating_add(1);
+        self.bytes = self.bytes.saturating_add(bytes);
+    }
 }
 
 // Writes a leaf that is its mark alone.
-fn plain(buffer: &mut [u8], leaves: &mut [u32], pen: Pen) -> Pen {
-    let drawn = pen.draw(20);
-    let mark = letter(b"iUIulmLMhdDCBTTTZZCC", drawn.value);
-    let after = drawn.put(buffer, mark);
-    keep(leaves, after, mark, small(Mark(mark).leaf_width()))
+fn plain(page: &mut Page<'_>, schema: &mut Schema) {
+    let mark = page.pick(b"iUIulmLMhdDCBTTTZZCC");
+    page.put(mark);
+    schema.keep(mark, small(Mark(mark).leaf_width()));
 }
 
 // The bytes of a wide text.
-fn wide(i: u32) -> u32 {
-    match i {
+fn wide(choice: u32) -> u32 {
+    match choice {
         0 | 1 => 65_536,
         2 | 3 => 65_537,
         4 => 1_048_576,
@@ -58,112 +90,95 @@ fn wide(i: u32) -> u32 {
 }
 
 // Draws a text leaf's bytes: few, none too; as a fault many, up to more than a record may have.
-fn text_bytes(pen: Pen) -> Pen {
-    let slip = pen.slip(8);
-    let mut drawn = slip.draw(7);
-    if slip.value == 1 {
-        drawn.value = wide(drawn.value);
-    }
-    drawn
+fn text_bytes(page: &mut Page<'_>) -> u32 {
+    let slip = page.slip(8);
+    let drawn = page.draw(7);
+    if slip { wide(drawn) } else { drawn }
 }
 
 // Writes a text leaf.
-fn text(buffer: &mut [u8], leaves: &mut [u32], pen: Pen) -> Pen {
-    let drawn = text_bytes(pen);
-    let bytes = drawn.value;
-    let marked = drawn.put(buffer, b'S');
-    let after = integer(buffer, marked, bytes);
-    keep(leaves, after, b'S', bytes)
+fn text(page: &mut Page<'_>, schema: &mut Schema) {
+    let bytes = text_bytes(page);
+    page.put(b'S');
+    integer(page, bytes);
+    schema.keep(b'S', bytes);
 }
 
 // Writes a kind that is refused.
-fn wrong(buffer: &mut [u8], pen: Pen) -> Pen {
-    let drawn = pen.draw(7);
-    let choice = drawn.value;
-    match choice {
-        0 | 1 => drawn.put(buffer, b'H'),
-        2 | 3 => drawn.put(buffer, b'[').put(buffer, b'$'),
-        4 => drawn.put(buffer, b'N'),
-        5 => drawn.put(buffer, b'E'),
-        _ => drawn.put(buffer, b'F'),
+fn wrong(page: &mut Page<'_>) {
+    match page.draw(7) {
+        0 | 1 => page.put(b'H'),
+        2 | 3 => page.put_all(b"[$"),
+        4 => page.put(b'N'),
+        5 => page.put(b'E'),
+        _ => page.put(b'F'),
     }
 }
 
-// Writes a leaf.
-fn leaf(buffer: &mut [u8], leaves: &mut [u32], pen: Pen) -> Pen {
-    let slip = pen.slip(16);
-    if slip.value == 1 {
-        return wrong(buffer, slip);
+// Writes a leaf; as a fault a kind that is refused.
+fn put_leaf(page: &mut Page<'_>, schema: &mut Schema) {
+    if page.slip(16) {
+        wrong(page);
+    } else if page.draw(4) == 0 {
+        text(page, schema);
+    } else {
+        plain(page, schema);
     }
-    let drawn = slip.draw(4);
-    if drawn.value == 0 {
-        return text(buffer, leaves, drawn);
-    }
-    plain(buffer, leaves, drawn)
 }
 
 // Opens a record or a fixed array of so many members.
-fn open(buffer: &mut [u8], groups: &mut [u32], pen: Pen, mark: u8, members: u32) -> Pen {
-    set(groups, pen.levels, 0, mark as u32);
-    set(groups, pen.levels, 1, members);
-    let mut opened = pen.put(buffer, mark);
-    opened.levels = more(pen.levels, 1);
-    opened.nest = less(pen.nest, 1);
-    opened
+fn open(page: &mut Page<'_>, groups: &mut Nest, bracket: Bracket, members: u32) {
+    groups.push(Open {
+        bracket,
+        counted: false,
+        left: members,
+    });
+    page.put(bracket.opening());
 }
 
 // Writes a kind: a record or a fixed array while some are to be opened, or now and then; else a leaf.
-fn kind(buffer: &mut [u8], leaves: &mut [u32], groups: &mut [u32], pen: Pen) -> Pen {
-    let drawn = pen.draw(6);
-    let may = drawn.value == 0 && pen.levels < 8 && pen.leaves < 12;
-    if !may && pen.nest == 0 {
-        return leaf(buffer, leaves, drawn);
+fn kind(page: &mut Page<'_>, schema: &mut Schema, groups: &mut Nest) {
+    let drawn = page.draw(6);
+    let may = drawn == 0 && groups.depth() < LEVELS && schema.many < MANY;
+    if !may && !groups.is_wanted() {
+        return put_leaf(page, schema);
     }
-    let form = drawn.draw(2);
-    let members = form.draw(3);
-    open(
-        buffer,
-        groups,
-        members,
-        letter(b"{[", form.value),
-        more(members.value, 1),
-    )
+    let bracket = if page.draw(2) == 0 {
+        Bracket::Brace
+    } else {
+        Bracket::Square
+    };
+    let members = page.draw(3) + 1;
+    open(page, groups, bracket, members);
 }
 
-// Writes a field's key; those of the outer record are counted.
-fn name(buffer: &mut [u8], pen: Pen, mark: u8) -> Pen {
-    let mut begun = pen;
-    if pen.levels == 1 {
-        begun.fields = more(pen.fields, 1);
+// Writes a member of the innermost bracket, or its end; the fields of the outer record are counted.
+fn step(page: &mut Page<'_>, schema: &mut Schema, groups: &mut Nest) {
+    let innermost = groups.innermost();
+    if innermost.left == 0 {
+        groups.pop();
+        return page.put(innermost.bracket.closing());
     }
-    if mark == b'{' {
-        return token::key(buffer, begun);
+    groups.take_member();
+    if groups.depth() == 1 {
+        schema.fields = schema.fields.saturating_add(1);
     }
-    begun
+    if innermost.bracket == Bracket::Brace {
+        token::key(page);
+    }
+    kind(page, schema, groups);
 }
 
-// Writes a member of the innermost bracket, or its end.
-fn step(buffer: &mut [u8], leaves: &mut [u32], groups: &mut [u32], pen: Pen) -> Pen {
-    let top = less(pen.levels, 1);
-    let mark = low(number(groups, top, 0));
-    let left = number(groups, top, 1);
-    if 0 < left {
-        set(groups, top, 1, left - 1);
-        let named = name(buffer, pen, mark);
-        return kind(buffer, leaves, groups, named);
+// Writes a schema, whose first kinds go so deep, with so many fields.
+pub fn put_schema(page: &mut Page<'_>, depth: u32, fields: u32) -> Schema {
+    let mut written = Schema::new();
+    let mut groups = Nest::new(depth);
+    open(page, &mut groups, Bracket::Brace, fields);
+    for _ in 0..STEPS {
+        if groups.depth() == 0 {
+            break;
+        }
+        step(page, &mut written, &mut groups);
     }
-    let mut closed = pen.put(buffer, if mark == b'{' { b'}' } else { b']' });
-    closed.levels = top;
-    closed
-}
-
-// Writes a schema.
-pub fn schema(buffer: &mut [u8], leaves: &mut [u32], groups: &mut [u32], pen: Pen) -> Pen {
-    let mut after = open(buffer, groups, pen, b'{', more(pen.value, 1));
-    let mut left: u32 = STEPS;
-    while 0 < left && 0 < after.levels {
-        after = step(buffer, leaves, groups, after);
-        left -= 1;
-    }
-    after
+    written
 }

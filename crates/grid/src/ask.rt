@@ -4,7 +4,6 @@ ghost use Rattle.values.specs.Answers.{NansApart};
 use crate::shape;
 use addresses::calls::{packed_slot, table_slot};
 use format::answers::{Located, Valued};
-use numbers::least;
 use slots::text::number_in_table;
 use slots::value::{value_in_packed, value_in_table};
 
@@ -17,11 +16,11 @@ pub fn located(
     indexes: &[usize],
     count: usize,
 ) -> Located {
-    let n = least(count, indexes.len());
+    let asked = &indexes[..count.min(indexes.len())];
     if shape::is_packed(rows, row) {
-        return packed_slot(rows, size, row, &indexes[..n]);
+        return packed_slot(rows, size, row, asked);
     }
-    table_slot(rows, size, row, leaf, &indexes[..n])
+    table_slot(rows, size, row, leaf, asked)
 }
 
 // The slot of an element or a record by its number.
@@ -42,11 +41,11 @@ pub fn valued(
 ) -> Valued
     ensures { NansApart result }
 {
-    let n = least(count, indexes.len());
+    let asked = &indexes[..count.min(indexes.len())];
     if shape::is_packed(rows, row) {
-        return value_in_packed(message, rows, row, &indexes[..n]);
+        return value_in_packed(message, rows, row, asked);
     }
-    value_in_table(message, rows, row, leaf, &indexes[..n])
+    value_in_table(message, rows, row, leaf, asked)
 }
 
 // The value of an element or a record by its number.
@@ -67,8 +66,8 @@ pub fn texted(
     indexes: &[usize],
     count: usize,
 ) -> Located {
-    let n = least(count, indexes.len());
-    number_in_table(message, rows, row, leaf, &indexes[..n])
+    let asked = &indexes[..count.min(indexes.len())];
+    number_in_table(message, rows, row, leaf, asked)
 }
 
 // The text of a record by its number.

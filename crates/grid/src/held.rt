@@ -1,5 +1,4 @@
 // The rows that are held of an accepted message, which may have more.
-use numbers::least;
 use rows::{Row, count, link, load};
 
 // How many rows the message has: the link of its one value.
@@ -9,7 +8,7 @@ pub fn needed(rows: &[u32]) -> usize {
 
 // How many rows before one are held.
 pub fn before(rows: &[u32], end: usize) -> usize {
-    least(end, count(rows))
+    end.min(count(rows))
 }
 
 // Whether some of the rows below a row are not held, where so many are.
@@ -19,7 +18,7 @@ pub fn is_cut(held: usize, r: Row) -> bool {
 
 // Whether the row is a packed array's or a table's.
 pub fn has_slots(r: Row) -> bool {
-    r.kind == 7 || r.kind == 8
+    matches!(r.kind, 7 | 8)
 }
 
 // Whether the row is a packed array's or a table's, and some of the rows below it are not held: then its slots are not known.

@@ -1,7 +1,6 @@
 // The shape of a packed array or a table, by the rows that the reader stored.
 ghost use Rattle.std.specs.Prelude.{◌≡◌, length};
 
-use numbers::{least, less, quotient, remainder, set_index, sum};
 use rows::word;
 
 // The kinds of the rows that are asked for here.
@@ -36,13 +35,13 @@ pub fn link(rows: &[u32], row: usize) -> usize {
 
 // The row after the last row of a table's schema, which is the table's next row.
 pub fn schema_end(rows: &[u32], row: usize) -> usize {
-    link(rows, sum(row, 1))
+    link(rows, row.saturating_add(1))
 }
 
 // The row of the first dimension.
 fn dimensions(rows: &[u32], row: usize) -> usize {
     if is_packed(rows, row) {
-        return sum(row, 1);
+        return row.saturating_add(1);
     }
     schema_end(rows, row)
 }
@@ -52,7 +51,7 @@ pub fn rank(rows: &[u32], row: usize) -> usize {
     if word(rows, row, 7) == 0 {
         return 1;
     }
-    least(less(link(rows, row), dimensions(rows, row)), 8)
+    link(rows, row).saturating_sub(dimensions(rows, row)).min(8)
 }
 
 // What index j must be below.
@@ -60,7 +59,7 @@ pub fn extent(rows: &[u32], row: usize, j: usize) -> usize {
     if word(rows, row, 7) == 0 {
         return word(rows, row, 5);
     }
-    word(rows, sum(dimensions(rows, row), j), 5)
+    word(rows, dimensions(rows, row).saturating_add(j), 5)
 }
 
 // The index that moves as number i, the fastest being 0.
@@ -68,23 +67,22 @@ fn moving(rows: &[u32], row: usize, i: usize) -> usize {
     if word(rows, row, 7) == FIRST_FASTEST {
         return i;
     }
-    less(rank(rows, row), sum(i, 1))
+    rank(rows, row).saturating_sub(i.saturating_add(1))
 }
 
 // The indexes of an element or a record by its number in storage order; those past the rank are 0.
 pub fn indexes(rows: &[u32], row: usize, number: usize) -> [usize; 9]
     ensures { 9 ≡ length result }
 {
-    let n = rank(rows, row);
     let mut out = [0usize; 9];
     let mut rest = number;
-    let mut i: usize = 0;
-    while i < n {
+    for i in 0..rank(rows, row) {
         let j = moving(rows, row, i);
         let below = extent(rows, row, j);
-        set_index(&mut out, j, remainder(rest, below));
-        rest = quotient(rest, below);
-        i += 1;
+        if let Some(index) = out.get_mut(j) {
+            *index = rest.checked_rem(below).unwrap_or(0);
+        }
+        rest = rest.checked_div(below).unwrap_or(0);
     }
     out
 }
@@ -92,7 +90,9 @@ pub fn indexes(rows: &[u32], row: usize, number: usize) -> [usize; 9]
 // The bytes of a slot: of a packed array its payload's over its elements, of a table the leaf's.
 pub fn wide(rows: &[u32], row: usize, leaf: usize) -> usize {
     if is_packed(rows, row) {
-        return quotient(word(rows, row, 4), word(rows, row, 5));
+        return word(rows, row, 4)
+            .checked_div(word(rows, row, 5))
+            .unwrap_or(0);
     }
     word(rows, leaf, 4)
 }
@@ -115,14 +115,7 @@ pub fn names(rows: &[u32], row: usize, leaf: usize) -> bool {
 
 // How many rows name slots of it.
 pub fn leaves(rows: &[u32], row: usize) -> usize {
-    let end = link(rows, row);
-    let mut n: usize = 0;
-    let mut r = row;
-    while r < end {
-        if names(rows, row, r) {
-            n = sum(n, 1);
-        }
-        r += 1;
-    }
-    n
+    (row..link(rows, row))
+        .filter(|leaf| names(rows, row, *leaf))
+        .count()
 }

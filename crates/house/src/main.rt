@@ -1,17 +1,18 @@
 // Runs the rewriter on the messages of standard input, a line each, and lists what it answers.
 #![tactic(auto)]
 
-mod buffers;
 mod message_runs;
 mod show;
 
 use lines::input::read_full;
+use memory::filled;
 use std::io;
 
 fn main(rt: HostRuntime) -> io::Result<()> {
-    let mut text = buffers::text();
+    let mut text = filled::<u8, 163840>(0);
     let n = read_full(&mut rt.stdin(), &mut text)?;
-    let mut message = buffers::bytes();
-    let mut output = buffers::bytes();
+    // A message or an output may be over the limit too.
+    let mut message = filled::<u8, 1048832>(0);
+    let mut output = filled::<u8, 1048832>(0);
     message_runs::all(&rt, &text[..n], &mut message, &mut output)
 }

@@ -1,23 +1,28 @@
 // The lines of the input: the edition's letter, the rows lent, the bytes of output lent, and a message.
 ghost use Rattle.std.specs.Prelude.{◌≤◌};
 
-use crate::{buffers, show};
+use crate::show;
 use format::answers::Edition;
 use lines::editions::edition;
 use lines::numbers::{after, decimal};
 use lines::words::stored;
-use memory::least;
+use memory::filled;
 use rows::ROW_WORDS;
 use std::io;
+
+// The most rows that are lent, and their words with the longest remainder.
+const ROWS: usize = 4200;
+
+const WORDS: usize = ROWS * ROW_WORDS + 9;
 
 // The words of so many rows, or of all the buffer's, and a remainder that changes with the rows.
 fn words_of(rows: usize) -> usize
     ensures { result ≤ 42009 }
 {
-    if rows < 4200 {
+    if rows < ROWS {
         return rows * ROW_WORDS + rows % ROW_WORDS;
     }
-    42009
+    WORDS
 }
 
 // One message, with so many rows lent.
@@ -28,8 +33,8 @@ fn run(
     lent: usize,
     output: &mut [u8],
 ) -> io::Result<()> {
-    let mut rows = buffers::rows();
-    let mut read = buffers::rows();
+    let mut rows = filled::<u32, WORDS>(0);
+    let mut read = filled::<u32, WORDS>(0);
     let n = words_of(lent);
     show::line(rt, edition, message, &mut rows[..n], &mut read[..n], output)
 }
@@ -46,8 +51,8 @@ fn one(
     let lent = decimal(text, after(after(at)));
     let room = decimal(text, after(lent.next));
     let w = stored(text, room.next, message);
-    let n = least(w.value, message.len());
-    let k = least(room.value, output.len());
+    let n = w.value.min(message.len());
+    let k = room.value.min(output.len());
     run(rt, named, &message[..n], lent.value, &mut output[..k])?;
     Ok(after(w.next))
 }

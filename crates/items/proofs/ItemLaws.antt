@@ -1,5 +1,5 @@
 -- What follows of the items' answers. Assumes nothing.
-use Prim.Native.Nat.{ℕ, ◌≤◌}
+use Prim.Native.Nat.{ℕ}
 use mathlib.Core.Path.{◌≡◌, refl, sym, ap, ◌∙◌}
 use mathlib.Core.Bool.{Bool, true, false, true≢false, false≢true}
 use mathlib.Core.List.{List}
@@ -21,7 +21,7 @@ use Rattle.std.specs.Prelude.{Result, Ok, Err, IsOkAnd, MatchResult}
 use Rattle.format.specs.declared.refusals.Refused.{Refused}
 use Rattle.tokens.specs.declared.End.{End}
 use Rattle.tokens.proofs.Sofar.{lay_forest, seq_read, seq_fault, onto-none, onto-onto, onto-fault, laid_after, laid_onto}
-use Rattle.items.specs.Items.{Opened, ItemMeets, ItemWithin}
+use Rattle.items.specs.Items.{Opened, ItemMeets}
 use Rattle.items.specs.declared.starts.Item.{Item}
 use Rattle.items.specs.declared.starts.Item.TheVariants.{Whole, Opens}
 
@@ -49,11 +49,6 @@ keyed_meets (Ok (Opens b at row'')) o value a row next row' ancestry before mid 
       took = omega (arith, l.took, h.took, size_append f g);
       lie = h.lie ∙ rw (l.lie, l.took) (lay_forest before row ancestry f g);
     }
-
-pub within_item : (r : Result Item Refused) (low low' high rows_lent : ℕ) → low' ≤ low → ItemWithin r low high rows_lent → ItemWithin r low' high rows_lent
-within_item (Err r) low low' high rows_lent h w = tt
-within_item (Ok (Whole e)) low low' high rows_lent h w = omega arith
-within_item (Ok (Opens b at row)) low low' high rows_lent h w = omega arith
 
 -- a container that opens right here
 pub opened_here : (o : (Opening → Reader) → Parsed Forest) (row : ℕ) (ancestry : Ancestry) (words : List ℕ) (opening : Opening) (at : ℕ)

@@ -4,8 +4,8 @@ use format::answers::Edition;
 
 // By the letter at a place: `o` for the old one, and any other for the new.
 pub fn edition(text: &[u8], at: usize) -> Edition {
-    if byte(text, at) == b'o' {
-        return Edition::Old;
+    match byte(text, at) {
+        b'o' => Edition::Old,
+        _ => Edition::New,
     }
-    Edition::New
 }

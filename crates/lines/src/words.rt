@@ -1,105 +1,70 @@
 // The words of a message: hex bytes, or hex bytes to be repeated.
-ghost use Rattle.std.specs.Prelude.{◌≤◌};
+ghost use Rattle.std.specs.Prelude.{◌<◌, ◌≤◌, length, IfSome};
 
-use crate::numbers::{Number, after, byte, decimal};
+use crate::numbers::{Number, after, byte, decimal, rest};
 
-// What a hex digit stands for; 16 for any other byte.
-fn digit(b: u8) -> u8
-    ensures { result ≤ 16 }
+// What a hex digit stands for; nothing for any other byte.
+fn digit(b: u8) -> Option<u8>
+    ensures { IfSome result (λ d. d < 16) }
 {
-    if b < b'0' {
-        return 16;
+    match b {
+        b'0'..=b'9' => Some(b - b'0'),
+        b'a'..=b'f' => Some(b - b'a' + 10),
+        _ => None,
     }
-    if b <= b'9' {
-        return b - b'0';
-    }
-    if b < b'a' {
-        return 16;
-    }
-    if b <= b'f' {
-        return b - b'a' + 10;
-    }
-    16
 }
 
 // The byte that two hex digits stand for.
 fn pair(high: u8, low: u8) -> u8 {
-    let h = digit(high);
-    let l = digit(low);
-    if 15 < h {
-        return 0;
-    }
-    if 15 < l {
-        return 0;
-    }
-    h * 16 + l
-}
-
-// Stores a byte, or drops it where the buffer ends.
-fn put(message: &mut [u8], at: usize, b: u8) {
-    if at < message.len() {
-        message[at] = b;
+    match (digit(high), digit(low)) {
+        (Some(h), Some(l)) => h * 16 + l,
+        _ => 0,
     }
 }
 
-// The place of the first byte that is no hex digit.
-fn hex_end(text: &[u8], from: usize) -> usize {
-    let mut at = from;
-    while at < text.len() && digit(byte(text, at)) < 16 {
-        at += 1;
-    }
-    at
+// The hex digits at a place, up to the first other byte.
+fn digits(text: &[u8], from: usize) -> &[u8]
+    ensures { length result.now ≤ length text.now }
+{
+    let after = rest(text, from);
+    let end = after.iter().position(|b| digit(*b).is_none());
+    &after[..end.unwrap_or(after.len())]
 }
 
-// Stores the bytes of the hex digits of a part of the text; answers the place after the last.
-fn once(text: &[u8], from: usize, end: usize, message: &mut [u8], first: usize) -> usize {
-    let mut at = from;
-    let mut n = first;
-    while at < end {
-        if end - at < 2 {
-            return n;
-        }
-        put(message, n, pair(byte(text, at), byte(text, at + 1)));
-        n = after(n);
-        at += 2;
+// Stores the bytes that hex digits stand for from a place on, as far as there is room; answers the place after the last.
+fn once(hex: &[u8], message: &mut [u8], first: usize) -> usize {
+    let bytes = hex.chunks_exact(2).map(|two| pair(two[0], two[1]));
+    let room = message.get_mut(first..).unwrap_or(&mut []);
+    for (place, b) in room.iter_mut().zip(bytes) {
+        *place = b;
     }
-    n
+    first.saturating_add(hex.len() / 2)
 }
 
 // The same, so many times.
-fn repeated(
-    text: &[u8],
-    from: usize,
-    end: usize,
-    times: usize,
-    message: &mut [u8],
-    first: usize,
-) -> usize {
-    let mut left = times;
+fn repeated(hex: &[u8], times: usize, message: &mut [u8], first: usize) -> usize {
     let mut n = first;
-    while 0 < left {
-        n = once(text, from, end, message, n);
-        left -= 1;
+    for _ in 0..times {
+        n = once(hex, message, n);
     }
     n
 }
 
 // How often a word is to be stored, and the place after the word.
 fn times(text: &[u8], at: usize) -> Number {
-    if byte(text, at) == b'*' {
-        return decimal(text, after(at));
+    match byte(text, at) {
+        b'*' => decimal(text, after(at)),
+        _ => Number { value: 1, next: at },
     }
-    Number { value: 1, next: at }
 }
 
 // Stores one word from a place of the message on; answers the place after its last byte in the message, and the place after it in the text.
 pub fn word(text: &[u8], at: usize, message: &mut [u8], first: usize) -> Number {
-    let end = hex_end(text, at);
-    let t = times(text, end);
-    let n = repeated(text, at, end, t.value, message, first);
+    let hex = digits(text, at);
+    let times = times(text, at.saturating_add(hex.len()));
     Number {
-        value: n,
-        next: t.next,
+        value: repeated(hex, times.value, message, first),
+        next: times.next,
     }
 }
 

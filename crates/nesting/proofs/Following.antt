@@ -5,7 +5,6 @@ use mathlib.Core.List.{List, [], ◌∷◌}
 use native.Mathlib.Omega.{arith}
 use lib.ListN.{length, get_or}
 use Rattle.format.specs.Grammars.{Grammar}
-use Rattle.format.specs.Limits.{limit}
 use Rattle.format.specs.Outcome.{Parsed, done, fault}
 use Rattle.format.specs.Marks.{Opening, bracket, brace, opens, closes, is_scalar, types, integers, 'N'}
 use Rattle.format.specs.Conditions.{when◌then◌else◌, among}
@@ -18,20 +17,13 @@ use Rattle.format.specs.Read.{value_by, nested}
 use Rattle.format.proofs.Noops.{skip_here}
 use Rattle.laws.proofs.Skips.{skip_again}
 use Rattle.rows.specs.Overlay.{lay}
-use Rattle.tokens.specs.Answers.{onto, Laid, Meets, Within}
-use Rattle.tokens.specs.declared.Step.{Step}
-use Rattle.tokens.specs.declared.Step.TheVariants.{Fault as Faulty, Next as Read}
+use Rattle.tokens.specs.Answers.{onto, Laid}
 use Rattle.tokens.proofs.Sofar.{Sofar, sofar_step, seq_read, onto-fault, laid_after}
-use Rattle.containers.specs.Lists.{closed, ListMeets, ListWithin}
-use Rattle.containers.specs.declared.lists.Listed.{Listed}
-use Rattle.containers.specs.declared.lists.Listed.TheVariants.{Fault, Next}
+use Rattle.containers.specs.Lists.{closed}
 use Rattle.containers.proofs.Loops.{Some, Until, until_start, until_stop, until-fault}
 use Rattle.runs.specs.Runs.{Begins, Passed}
-use Rattle.runs.proofs.Passing.{passed_one}
 use Rattle.items.specs.Items.{class, opens_bracket, opens_brace}
 use Rattle.items.specs.Headers.{member_of, OpensPlain}
-use Rattle.items.specs.Lists.{Small, one_of, plus_of}
-use Rattle.nesting.specs.Values.{FollowingMeets, FollowingWithin, EachByte}
 use Rattle.items.proofs.ItemCases.{value_on, value_begins}
 use Rattle.items.proofs.ContainerCases.{nested_plain}
 
@@ -69,16 +61,6 @@ opening_begins m at outer inner e =
     apart brace brace e = absurd (omega (arith, e))
 
 -- ---- one member
-
-module _ (m : List ℕ) (closing : ℕ) (item : Reader) (at row : ℕ) (ancestry : Ancestry) (before after : List ℕ) where
-  pub one_meets : (s : Step) (high lent : ℕ) → Begins m closing at → Within s (at + 1) high lent → Meets s (item at row) row 1 ancestry before after
-      → FollowingMeets (one_of s) m closing item at row ancestry before after
-  one_meets (Faulty n p) high lent b w h = h
-  one_meets (Read next row') high lent b w h = passed_one m closing item at row next row' ancestry before after b (omega arith) h
-
-pub one_within : (s : Step) (at high lent : ℕ) → Within s (at + 1) high lent → FollowingWithin (one_of s) at high lent
-one_within (Faulty n p) at high lent w = tt
-one_within (Read next row) at high lent w = omega arith
 
 -- its fault is that of all members from it on
 pub first-fault : (m : List ℕ) (closing : ℕ) (item : Reader) (start first n p : ℕ) → Begins m closing start → item start first ≡ fault n p
@@ -134,27 +116,17 @@ module _ (m : List ℕ) (closing : ℕ) (item : Reader) (start first : ℕ) (anc
       let z : 0 + k ≡ k = omega arith in
       rw (e, z) at l
 
-  -- several, and a list after them
-  pub list_passed : (r : Listed) (at row k : ℕ) (now after : List ℕ) → Passed m closing item start first ancestry before at row k now
-      → ((fuel : ℕ) → length m ≤ at + fuel → ListMeets r (until m fuel (skip m) closing item at row) row ancestry now after)
-      → (fuel : ℕ) → length m ≤ start + fuel → ListMeets (plus_of k r) (until m fuel (skip m) closing item start first) first ancestry before after
-  list_passed (Fault n q) at row k now after p h fuel l =
-      let g = p.goes fuel l in g.is ∙ onto-fault p.forest _ n q (h g.left g.enough)
-  list_passed (Next end row' more) at row k now after p h fuel l =
-      let g = p.goes fuel l in rw g.is (laid_after p.forest p.counted p.took p.lie (h g.left g.enough))
+  -- several, and then a fault, or a list after them
+  module _ (at row k : ℕ) (now : List ℕ) (p : Passed m closing item start first ancestry before at row k now) where
+    pub list-fault : (n q : ℕ) → ((fuel : ℕ) → length m ≤ at + fuel → until m fuel (skip m) closing item at row ≡ fault n q)
+        → (fuel : ℕ) → length m ≤ start + fuel → until m fuel (skip m) closing item start first ≡ fault n q
+    list-fault n q h fuel l =
+        let g = p.goes fuel l in g.is ∙ onto-fault p.forest _ n q (h g.left g.enough)
 
-pub list_within : (r : Listed) (start at high lent k : ℕ) → start + k ≤ at → EachByte r at → ListWithin r at high lent → ListWithin (plus_of k r) start high lent
-list_within (Fault n p) start at high lent k h b w = tt
-list_within (Next end row more) start at high lent k h b w = omega arith
-
-pub each_byte : (r : Listed) (start at k : ℕ) → start + k ≤ at → EachByte r at → EachByte (plus_of k r) start
-each_byte (Fault n p) start at k h b = tt
-each_byte (Next end row more) start at k h b = omega arith
-
--- their number fits
-pub plus_small : (r : Listed) (start at high lent k : ℕ) → start + k ≤ at → high ≤ limit → EachByte r at → ListWithin r at high lent → Small k r
-plus_small (Fault n p) start at high lent k h l b w = tt
-plus_small (Next end row more) start at high lent k h l b w = omega arith
+    pub list_passed : (end row' more : ℕ) (after : List ℕ) → ((fuel : ℕ) → length m ≤ at + fuel → Laid (until m fuel (skip m) closing item at row) row more ancestry now after end row')
+        → (fuel : ℕ) → length m ≤ start + fuel → Laid (until m fuel (skip m) closing item start first) first (k + more) ancestry before after end row'
+    list_passed end row' more after h fuel l =
+        let g = p.goes fuel l in rw g.is (laid_after p.forest p.counted p.took p.lie (h g.left g.enough))
 
 -- ---- a plain container in an array
 

@@ -12,17 +12,17 @@ ghost use Rattle.runs.specs.Runs.{Begins};
 ghost use Rattle.items.specs.Headers.{member_of};
 ghost use Rattle.nesting.specs.Values.{PlainMeets, RestMeets, RestWithin, FollowingMeets, FollowingWithin, EachByte};
 
-use containers::lists::{Listed, close};
+use containers::lists::close;
 use format::answers::Edition;
 use format::marks::{Mark, closing_mark};
+use format::refusals::{Refusal, Refused};
 use items::headers::{Header, header_at, is_opening, opens_deep, opens_plain};
-use items::lists::{one, plus};
 use items::starts::{Item, member_start};
 use rows::{Ancestry, held_by};
 use runs::members::several;
 use scan::bytes::{byte_at, stands};
 use scan::noops::skip;
-use tokens::Step;
+use tokens::{End, Members};
 use typed::container::typed;
 
 // A member, with so many levels left for what nests in it.
@@ -37,17 +37,20 @@ pub fn member(
     at: usize,
     row: usize,
     ancestry: Ancestry,
-) -> Step
+) -> Result<End, Refused>
     requires { Here message.now lent at row × (ancestry.depth ≤ at) }
     ensures meets { Meets result (member_of message.now lent (grammar_of edition) levels (opening_of brace) at row) row 1 (ancestry_of ancestry) rows.old rows.new }
     ensures bounds { Within result (at + 1) (length message.now) lent }
 {
-    match member_start(edition, message, rows, lent, brace, at, row, ancestry) {
-        Item::Fault(n, p) => Step::Fault(n, p),
-        Item::Next(next, after) => Step::Next(next, after),
-        Item::Opens(b, here, below) => {
+    match member_start(edition, message, rows, lent, brace, at, row, ancestry)? {
+        Item::Whole(end) => Ok(end),
+        Item::Opens {
+            brace: inner,
+            at: here,
+            row: below,
+        } => {
             container(
-                edition, message, rows, lent, levels, b, here, below, ancestry,
+                edition, message, rows, lent, levels, inner, here, below, ancestry,
             )
         }
     }
@@ -66,7 +69,7 @@ pub fn counted(
     start: usize,
     first: usize,
     ancestry: Ancestry,
-) -> Listed
+) -> Result<Members, Refused>
     requires { Here message.now lent start first × (n ≤ limit) × (ancestry.depth ≤ start) }
     ensures meets { ListMeets result (repeat n (spaced message.now (member_of message.now lent (grammar_of edition) levels (opening_of brace))) start first) first (ancestry_of ancestry) rows.old rows.new }
     ensures bounds { ListWithin result start (length message.now) lent }
@@ -74,6 +77,7 @@ pub fn counted(
     let mut at = start;
     let mut row = first;
     let mut count = 0;
+    // no `for`: a turn reads as many as `several` does
     while count < n {
         let run = several(message, rows, lent, brace, n - count, at, row, ancestry);
         if 0 < run.count {
@@ -82,21 +86,15 @@ pub fn counted(
             count += run.count;
         } else {
             let here = skip(message, at);
-            match member(
+            let end = member(
                 edition, message, rows, lent, levels, brace, here, row, ancestry,
-            ) {
-                Step::Fault(number, place) => {
-                    return Listed::Fault(number, place);
-                }
-                Step::Next(next, after) => {
-                    at = next;
-                    row = after;
-                    count += 1;
-                }
-            }
+            )?;
+            at = end.at;
+            row = end.row;
+            count += 1;
         }
     }
-    Listed::Next(at, row, count)
+    Ok(Members { at, row, count })
 }
 
 // The member at `at`, or it and those of its sort after it.
@@ -111,7 +109,7 @@ fn following(
     at: usize,
     row: usize,
     ancestry: Ancestry,
-) -> Listed
+) -> Result<Members, Refused>
     requires { Here message.now lent at row × Begins message.now (closes (opening_of brace)) at × (ancestry.depth ≤ at) }
     ensures meets { FollowingMeets result message.now (closes (opening_of brace)) (member_of message.now lent (grammar_of edition) levels (opening_of brace)) at row (ancestry_of ancestry) rows.old rows.new }
     ensures bounds { FollowingWithin result at (length message.now) lent }
@@ -131,16 +129,26 @@ fn following(
             start,
             below,
             children,
-        );
-        return one(close(rows, inner, at, row, start, 1, list, ancestry));
+        )?;
+        let end = close(rows, inner, at, row, start, 1, list, ancestry);
+        return Ok(Members {
+            at: end.at,
+            row: end.row,
+            count: 1,
+        });
     }
     let run = several(message, rows, lent, brace, message.len(), at, row, ancestry);
     if 0 < run.count {
-        return Listed::Next(run.at, run.row, run.count);
+        return Ok(run);
     }
-    one(member(
+    let end = member(
         edition, message, rows, lent, levels, brace, at, row, ancestry,
-    ))
+    )?;
+    Ok(Members {
+        at: end.at,
+        row: end.row,
+        count: 1,
+    })
 }
 
 // Members up to the closing mark, from `start` and `first` on.
@@ -155,7 +163,7 @@ pub fn plain(
     start: usize,
     first: usize,
     ancestry: Ancestry,
-) -> Listed
+) -> Result<Members, Refused>
     requires { Here message.now lent start first × (ancestry.depth ≤ start) }
     ensures meets { PlainMeets result message.now lent (grammar_of edition) levels (opening_of brace) start first (ancestry_of ancestry) rows.old rows.new }
     ensures bounds { ListWithin result start (length message.now - 1) lent }
@@ -167,25 +175,19 @@ pub fn plain(
     let mut row = first;
     let mut count = 0;
     loop {
-        let here = skip(message, at);
-        if end <= here {
-            return Listed::Fault(2, end);
+        at = skip(message, at);
+        if end <= at {
+            return Err(Refused(Refusal::EndsTooEarly, end));
         }
-        if message[here] == closing {
-            return Listed::Next(here, row, count);
+        if message[at] == closing {
+            return Ok(Members { at, row, count });
         }
-        match following(
-            edition, message, rows, lent, levels, brace, here, row, ancestry,
-        ) {
-            Listed::Fault(number, place) => {
-                return Listed::Fault(number, place);
-            }
-            Listed::Next(next, after, more) => {
-                at = next;
-                row = after;
-                count += more;
-            }
-        }
+        let list = following(
+            edition, message, rows, lent, levels, brace, at, row, ancestry,
+        )?;
+        at = list.at;
+        row = list.row;
+        count += list.count;
     }
 }
 
@@ -202,20 +204,22 @@ fn rest(
     row: usize,
     count: usize,
     ancestry: Ancestry,
-) -> Listed
+) -> Result<Members, Refused>
     requires { Here message.now lent at row × (count ≤ at) × (ancestry.depth ≤ at) }
     ensures meets { RestMeets result message.now lent (grammar_of edition) levels (opening_of brace) at row count (ancestry_of ancestry) rows.old rows.new }
     ensures bounds { RestWithin result (length message.now - 1) lent at count }
 {
     if stands(message, at, closing_mark(brace)) {
-        return Listed::Next(at, row, count);
+        return Ok(Members { at, row, count });
     }
-    plus(
-        count,
-        plain(
-            edition, message, rows, lent, levels, brace, at, row, ancestry,
-        ),
-    )
+    let list = plain(
+        edition, message, rows, lent, levels, brace, at, row, ancestry,
+    )?;
+    Ok(Members {
+        at: list.at,
+        row: list.row,
+        count: count + list.count,
+    })
 }
 
 // The same as `plain`, where a container comes first: by a call for each level, as long as containers begin with containers.
@@ -230,7 +234,7 @@ fn deep(
     start: usize,
     first: usize,
     ancestry: Ancestry,
-) -> Listed
+) -> Result<Members, Refused>
     requires { Here message.now lent start first × (start < length message.now) × (ancestry.depth ≤ start) }
     ensures meets { PlainMeets result message.now lent (grammar_of edition) levels (opening_of brace) start first (ancestry_of ancestry) rows.old rows.new }
     ensures bounds { ListWithin result start (length message.now - 1) lent }
@@ -255,13 +259,11 @@ fn deep(
         next,
         below,
         children,
-    );
-    match close(rows, inner, start, first, next, 1, list, ancestry) {
-        Step::Fault(n, p) => Listed::Fault(n, p),
-        Step::Next(at, row) => rest(
-            edition, message, rows, lent, levels, brace, at, row, 1, ancestry,
-        ),
-    }
+    )?;
+    let end = close(rows, inner, start, first, next, 1, list, ancestry);
+    rest(
+        edition, message, rows, lent, levels, brace, end.at, end.row, 1, ancestry,
+    )
 }
 
 // The same as `plain`, where most have members of one sort only: these are read first, unless a container comes first.
@@ -276,7 +278,7 @@ fn held(
     start: usize,
     first: usize,
     ancestry: Ancestry,
-) -> Listed
+) -> Result<Members, Refused>
     requires { Here message.now lent start first × (ancestry.depth ≤ start) }
     ensures meets { PlainMeets result message.now lent (grammar_of edition) levels (opening_of brace) start first (ancestry_of ancestry) rows.old rows.new }
     ensures bounds { ListWithin result start (length message.now - 1) lent }
@@ -314,30 +316,29 @@ pub fn container(
     at: usize,
     row: usize,
     ancestry: Ancestry,
-) -> Step
+) -> Result<End, Refused>
     requires { Here message.now lent at row × (at < length message.now) × (ancestry.depth ≤ at) }
     ensures meets { Meets result (nested message.now lent (grammar_of edition) levels (opening_of brace) at row) row 1 (ancestry_of ancestry) rows.old rows.new }
     ensures bounds { Within result (at + 1) (length message.now) lent }
 {
     let below = row + 1;
     let children = held_by(row, ancestry);
-    match header_at(message, lent, levels, at, row) {
-        Header::Fault(n, p) => Step::Fault(n, p),
+    match header_at(message, lent, levels, at, row)? {
         Header::Typed => typed(message, rows, lent, brace, at, row, ancestry),
-        Header::Counted(n, start) => {
+        Header::Counted { count: n, start } => {
             let left = levels - 1;
             let list = counted(
                 edition, message, rows, lent, left, brace, n, start, below, children,
-            );
-            close(rows, brace, at, row, start, 0, list, ancestry)
+            )?;
+            Ok(close(rows, brace, at, row, start, 0, list, ancestry))
         }
         Header::Plain => {
             let start = at + 1;
             let left = levels - 1;
             let list = plain(
                 edition, message, rows, lent, left, brace, start, below, children,
-            );
-            close(rows, brace, at, row, start, 1, list, ancestry)
+            )?;
+            Ok(close(rows, brace, at, row, start, 1, list, ancestry))
         }
     }
 }

@@ -2,6 +2,7 @@
 #![tactic(auto)]
 
 pub mod arguments;
+pub mod faults;
 pub mod help;
 pub mod lists;
 pub mod words;

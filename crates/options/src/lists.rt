@@ -1,63 +1,48 @@
 // Lists of decimal numbers with a comma between two, as an address has them.
-ghost use Rattle.std.specs.Prelude.{◌≡◌, length};
+ghost use Rattle.std.specs.Prelude.{◌≤◌, IfOk};
 
-use lines::numbers::{after, byte, decimal, is_digit, past};
-use numbers::{less, set_index};
+use crate::faults::Fault;
 
-// Whether the byte at a place may stand in a list there.
-fn is_part(word: &[u8], at: usize) -> bool {
-    let b = byte(word, at);
-    if is_digit(b) {
-        return true;
-    }
-    b == b',' && 0 < at && is_digit(byte(word, less(at, 1))) && is_digit(byte(word, after(at)))
+// The digits that a number of an address may have.
+const DIGITS: usize = 18;
+
+// The numbers of a list, at most eight, and how many there are; 0 stands in the places after them.
+#[derive(Clone, Copy, Debug)]
+pub struct List {
+    pub numbers: [usize; 9],
+    pub count: usize,
 }
 
 // Whether a word is a list.
-pub fn is_list(word: &[u8]) -> bool {
-    let mut at: usize = 0;
-    while at < word.len() {
-        if !is_part(word, at) {
-            return false;
+fn is_list(word: &[u8]) -> bool {
+    word.split(|&b| b == b',').all(|part| !part.is_empty()
+        && part.iter().all(|b| b.is_ascii_digit()))
+}
+
+// A decimal number of few digits.
+fn decimal(digits: &[u8]) -> Option<usize> {
+    str::from_utf8(digits).ok()?.parse().ok()
+}
+
+impl List {
+    // The list of at most so many numbers that a word is.
+    pub fn parse(word: &[u8], most: usize) -> Result<List, Fault>
+        ensures { IfOk result (λ list. list.count ≤ most) }
+    {
+        if !is_list(word) {
+            return Err(Fault::OtherList);
         }
-        at += 1;
-    }
-    0 < word.len()
-}
-
-// How many numbers a list has.
-pub fn count(word: &[u8]) -> usize {
-    let mut n: usize = 1;
-    let mut at: usize = 0;
-    while at < word.len() {
-        if word[at] == b',' {
-            n = after(n);
+        let count = word.split(|&b| b == b',').count();
+        if most < count {
+            return Err(Fault::ManyNumbers);
         }
-        at += 1;
+        if word.split(|&b| b == b',').any(|part| DIGITS < part.len()) {
+            return Err(Fault::LongNumber);
+        }
+        let mut numbers = [0; 9];
+        for (number, part) in numbers.iter_mut().zip(word.split(|&b| b == b',')) {
+            *number = decimal(part).unwrap_or(0);
+        }
+        Ok(List { numbers, count })
     }
-    n
-}
-
-// Number j of a list.
-pub fn number(word: &[u8], j: usize) -> usize {
-    let mut at: usize = 0;
-    let mut i: usize = 0;
-    while i < j {
-        at = past(word, at, b',');
-        i += 1;
-    }
-    decimal(word, at).value
-}
-
-// The first nine numbers of a list; an address has at most eight.
-pub fn numbers(word: &[u8]) -> [usize; 9]
-    ensures { 9 ≡ length result }
-{
-    let mut out = [0usize; 9];
-    let mut j: usize = 0;
-    while j < 9 {
-        set_index(&mut out, j, number(word, j));
-        j += 1;
-    }
-    out
 }

@@ -1,65 +1,67 @@
 // The words of the command line.
-use wording::tables::find;
+ghost use Rattle.std.specs.Prelude.{◌≡◌, ◌↔◌, IsTrue, MatchResult, codes, take};
 
-// What a word asks for: an option, by its line below; a file, as `-` is, standard input; or nothing that is known.
-pub const ROWS: usize = 0;
+use crate::faults::Fault;
+use format::answers::Edition;
 
-pub const SLOTS: usize = 1;
+// What a word asks for: an option; a file, as `-` is, standard input; or that all words after it are files' names.
+#[derive(Clone, Copy, PartialEq, Eq, Debug)]
+pub enum Word {
+    Rows,
+    Slots,
+    Hex,
+    House,
+    Color,
+    Help,
+    At,
+    Name,
+    Edition,
+    End,
+    File,
+}
 
-pub const HEX: usize = 2;
+impl TryFrom<&[u8]> for Word {
+    ghost use Rattle.options.specs.Words.{Spells};
 
-pub const HOUSE: usize = 3;
+    type Error = Fault;
 
-pub const COLOR: usize = 4;
+    ghost try_from_gives = { λ word result. MatchResult result (λ asked. Spells asked word.now) (λ _. take 1 word.now ≡ codes "-") };
 
-pub const AT: usize = 7;
-
-pub const NAME: usize = 8;
-
-pub const EDITION: usize = 9;
-
-// All words after it are files' names.
-pub const END: usize = 10;
-
-pub const FILE: usize = 11;
-
-pub const UNKNOWN: usize = 12;
-
-// What a word asks for.
-pub fn of(word: &[u8]) -> usize {
-    let line = find(
-        b"--rows
---slots
---hex
---house
---color
---help
--h
---at
---name
---edition
---
--",
-        UNKNOWN,
-        word,
-    );
-    if line == UNKNOWN && numbers::byte(word, 0) != b'-' {
-        return FILE;
+    // What a word asks for.
+    fn try_from(word: &[u8]) -> Result<Word, Fault> {
+        match word {
+            b"--rows" => Ok(Word::Rows),
+            b"--slots" => Ok(Word::Slots),
+            b"--hex" => Ok(Word::Hex),
+            b"--house" => Ok(Word::House),
+            b"--color" => Ok(Word::Color),
+            b"--help" | b"-h" => Ok(Word::Help),
+            b"--at" => Ok(Word::At),
+            b"--name" => Ok(Word::Name),
+            b"--edition" => Ok(Word::Edition),
+            b"--" => Ok(Word::End),
+            b"-" => Ok(Word::File),
+            [b'-', ..] => Err(Fault::Unknown),
+            _ => Ok(Word::File),
+        }
     }
-    line
 }
 
 // Whether a word is standard input's.
-pub fn is_input(word: &[u8]) -> bool {
-    word.len() == 1 && numbers::byte(word, 0) == b'-'
+pub fn is_input(word: &[u8]) -> bool
+    ensures { IsTrue result ↔ (word.now ≡ codes "-") }
+{
+    matches!(word, b"-")
 }
 
-// The editions by their names, and a word that is none.
-pub const OLD: usize = 0;
-
-pub const NEW: usize = 1;
-
 // The edition that a word names.
-pub fn edition(word: &[u8]) -> usize {
-    find(b"old\nnew", 2, word)
+pub fn edition(word: &[u8]) -> Result<Edition, Fault>
+    ensures old { (result ≡ Ok Edition.Old) ↔ (word.now ≡ codes "old") }
+    ensures new { (result ≡ Ok Edition.New) ↔ (word.now ≡ codes "new") }
+{
+    match word {
+        b"old" => Ok(Edition::Old),
+        b"new" => Ok(Edition::New),
+        _ => Err(Fault::OtherEdition),
+    }
 }

@@ -20,7 +20,10 @@ use Rattle.rows.specs.Clearing.{cleared_from}
 use Rattle.rows.proofs.Overlay.{lay_cleared}
 use Rattle.tokens.specs.Answers.{Laid}
 use Rattle.items.specs.Headers.{member_of}
-use Rattle.reader.specs.Message.{Lies, front_words}
+use Rattle.std.specs.Prelude.{Result, Ok, Err}
+use Rattle.format.specs.Answers.{answered}
+use Rattle.format.specs.declared.refusals.Refused.{Refused}
+use Rattle.reader.specs.Message.{Lies, WholeMeets, front_words}
 
 module _ (m : List ℕ) (lent : ℕ) (grammar : Grammar) where
   pub read_long : limit < length m → read m lent grammar ≡ fault message_too_long 0
@@ -56,6 +59,11 @@ used o before after row l = rw (l.read, l.took)
 pub refused : (o : Outcome Forest) (n p : ℕ) → o ≡ fault n p → fault n p ≡ rows_used o
 unfolding rows_used
 refused o n p e = rw e
+
+-- the core's answer
+pub answers : (r : Result ℕ Refused) (o : Outcome Forest) (before after : List ℕ) → WholeMeets r o before after → answered r ≡ rows_used o
+answers (Err r) o before after e = refused o _ _ e
+answers (Ok row) o before after l = used o before after row l
 
 pub words_filled : (o : Outcome Forest) (before after : List ℕ) (row : ℕ) → Lies o before after row → row * row_words ≤ length before → cleared_from after (row * row_words) ≡ words_after (length before) o
 unfolding words_after all_words all_rows

@@ -1,11 +1,11 @@
 -- What the answer to a whole message stands for.
-use Rattle.std.specs.Prelude.{ℕ, ◌≤◌, ◌≡◌, List}
+use Rattle.std.specs.Prelude.{ℕ, ◌≤◌, ◌≡◌, List, Result, Ok, Err}
 use Rattle.format.specs.Outcome.{Outcome, fault, done}
 use Rattle.format.specs.Tokens.{Forest, size}
 use Rattle.format.specs.Rows.{all_rows, zeros}
 use Rattle.rows.specs.Overlay.{lay}
-use Rattle.tokens.specs.declared.Step.{Step}
-use Rattle.tokens.specs.declared.Step.TheVariants.{Fault, Next}
+use Rattle.format.specs.Answers.{refused}
+use Rattle.format.specs.declared.refusals.Refused.{Refused}
 
 -- the message's tokens lie in the words from the first row on, as far as these reach
 pub record Lies (o : Outcome Forest) (before after : List ℕ) (row : ℕ) : Type 0 where
@@ -14,13 +14,13 @@ pub record Lies (o : Outcome Forest) (before after : List ℕ) (row : ℕ) : Typ
   pub took : row ≡ size forest
   pub lie : after ≡ lay before 0 (all_rows forest)
 
-abbrev pub WholeMeets : Step → Outcome Forest → List ℕ → List ℕ → Type 0
-WholeMeets (Fault n p) o before after = o ≡ fault n p
-WholeMeets (Next next row) o before after = Lies o before after row
+abbrev pub WholeMeets : Result ℕ Refused → Outcome Forest → List ℕ → List ℕ → Type 0
+WholeMeets (Err r) o before after = o ≡ refused r
+WholeMeets (Ok row) o before after = Lies o before after row
 
-abbrev pub WholeWithin : Step → ℕ → Type 0
-WholeWithin (Fault n p) lent = Unit {0}
-WholeWithin (Next next row) lent = row ≤ lent
+abbrev pub WholeWithin : Result ℕ Refused → ℕ → Type 0
+WholeWithin (Err r) lent = Unit {0}
+WholeWithin (Ok row) lent = row ≤ lent
 
 -- the words of a table of so many words that holds the first rows alone, as many as it has room for; all zero on refusal
 unfoldable pub front_words : ℕ → Outcome Forest → List ℕ

@@ -1,30 +1,34 @@
 // A whole message: one value, with any number of `N` before and after.
 ghost use Rattle.std.specs.Prelude.{◌≡◌, length};
-ghost use Rattle.format.specs.Outcome.{fault};
 ghost use Rattle.format.specs.Rows.{zeros};
 ghost use Rattle.format.specs.Read.{read as read_of, read_whole, read_into, rows_used, words_after};
-ghost use Rattle.format.specs.Answers.{answered, grammar_of};
+ghost use Rattle.format.specs.Answers.{answered, refused, grammar_of};
 ghost use Rattle.reader.specs.Message.{WholeMeets, WholeWithin, front_words};
 
-use format::answers::{Answer, Edition};
+use format::answers::Edition;
 use format::limits::{LIMIT, VALUE_LEVELS};
+use format::refusals::{Refusal, Refused};
 use nesting::values::member;
 use rows::{OUTERMOST, ROW_WORDS, clear, clear_from, count};
 use scan::noops::skip;
-use tokens::Step;
 
-// The message, with so many rows lent, of which those are stored that the table has. It is lent on as a part of its own, so that its
-// pointer and length aren't loaded as one right after they were stored as two.
-fn read_core(edition: Edition, message: &[u8], rows: &mut [u32], lent: usize) -> Step
+// The rows of the message, with so many lent, of which those are stored that the table has. It is lent on as a part of its own, so that
+// its pointer and length aren't loaded as one right after they were stored as two.
+fn read_core(
+    edition: Edition,
+    message: &[u8],
+    rows: &mut [u32],
+    lent: usize,
+) -> Result<usize, Refused>
     ensures meets { WholeMeets result (read_of message.now lent (grammar_of edition)) rows.old rows.new }
     ensures bounds { WholeWithin result lent }
 {
     let end = message.len();
     if (LIMIT as usize) < end {
-        return Step::Fault(1, 0);
+        return Err(Refused(Refusal::MessageTooLong, 0));
     }
     let at = skip(message, 0);
-    match member(
+    let value = member(
         edition,
         &message[..end],
         rows,
@@ -34,62 +38,55 @@ fn read_core(edition: Edition, message: &[u8], rows: &mut [u32], lent: usize) ->
         at,
         0,
         OUTERMOST,
-    ) {
-        Step::Fault(n, p) => Step::Fault(n, p),
-        Step::Next(next, row) => {
-            let after = skip(message, next);
-            if after < end {
-                return Step::Fault(9, after);
-            }
-            Step::Next(after, row)
-        }
+    )?;
+    let after = skip(message, value.at);
+    if after < end {
+        return Err(Refused(Refusal::BytesAfter, after));
     }
+    Ok(value.row)
 }
 
 // A refusal: every lent word is zero.
-fn refused(words: &mut [u32], number: u32, place: usize) -> Answer
-    ensures answer { answered result ≡ fault number place }
+fn refused(words: &mut [u32], why: Refused) -> Result<usize, Refused>
+    ensures answer { answered result ≡ refused why }
     ensures words { words.new ≡ zeros (length words.old) }
 {
     clear(words);
-    Answer::Refused(number, place)
+    Err(why)
 }
 
-// Reads a message into lent rows: the rows used, or a refusal's number and place. What isn't filled is zero, on refusal all.
-pub fn read(edition: Edition, message: &[u8], rows: &mut [u32]) -> Answer
+// Reads a message into lent rows: the rows used, or a refusal and its place. What isn't filled is zero, on refusal all.
+pub fn read(edition: Edition, message: &[u8], rows: &mut [u32]) -> Result<usize, Refused>
     ensures answer { answered result ≡ rows_used (read_into message.now rows.old (grammar_of edition)) }
     ensures words { rows.new ≡ words_after (length rows.old) (read_into message.now rows.old (grammar_of edition)) }
 {
     let lent = count(rows);
     match read_core(edition, message, rows, lent) {
-        Step::Fault(n, p) => refused(rows, n, p),
-        Step::Next(_, row) => {
-            clear_from(rows, row * ROW_WORDS);
-            Answer::Done(row)
+        Ok(used) => {
+            clear_from(rows, used * ROW_WORDS);
+            Ok(used)
         }
+        Err(why) => refused(rows, why),
     }
 }
 
-// The rows that a message needs, or a refusal's number and place, with no table: rows count as enough.
-pub fn rows_needed(edition: Edition, message: &[u8]) -> Answer
+// The rows that a message needs, or a refusal and its place, with no table: rows count as enough.
+pub fn rows_needed(edition: Edition, message: &[u8]) -> Result<usize, Refused>
     ensures { answered result ≡ rows_used (read_whole message.now (grammar_of edition)) }
 {
     let mut none = [0u32; 0];
-    match read_core(edition, message, &mut none, message.len()) {
-        Step::Fault(n, p) => Answer::Refused(n, p),
-        Step::Next(_, row) => Answer::Done(row),
-    }
+    read_core(edition, message, &mut none, message.len())
 }
 
-// The rows that a message needs, or a refusal's number and place; the table holds the first of them, as many as it has room for. What
-// isn't filled is zero, on refusal all.
-pub fn read_front(edition: Edition, message: &[u8], rows: &mut [u32]) -> Answer
+// The rows that a message needs, or a refusal and its place; the table holds the first of them, as many as it has room for. What isn't
+// filled is zero, on refusal all.
+pub fn read_front(edition: Edition, message: &[u8], rows: &mut [u32]) -> Result<usize, Refused>
     ensures answer { answered result ≡ rows_used (read_whole message.now (grammar_of edition)) }
     ensures words { rows.new ≡ front_words (length rows.old) (read_whole message.now (grammar_of edition)) }
 {
     clear(rows);
     match read_core(edition, message, rows, message.len()) {
-        Step::Fault(n, p) => refused(rows, n, p),
-        Step::Next(_, row) => Answer::Done(row),
+        Ok(needed) => Ok(needed),
+        Err(why) => refused(rows, why),
     }
 }

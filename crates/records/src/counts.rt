@@ -5,7 +5,7 @@ ghost use Rattle.records.specs.Counts.{CountRead};
 
 use format::limits::LIMIT;
 use rows::OUTERMOST;
-use shapes::counts::{Shaped, shape};
+use shapes::counts::shape;
 
 // The last place of a message.
 const MOST: usize = LIMIT as usize;
@@ -17,7 +17,8 @@ pub struct Count {
     pub many: usize,
 }
 
-// The count that begins at `at`, read with no table, so that any ancestry will do; none where none can be read.
+// The count that begins at `at`, read with no table, so that any ancestry will do. Where none can be read, nothing is
+// promised but the bounds: an Option would only add a test that no accepted message needs.
 pub fn count_at(message: &[u8], at: usize) -> Count
     ensures is { CountRead message.now at result }
     ensures bounds { (result.start ≤ limit) × (result.many ≤ limit + 1) }
@@ -31,16 +32,11 @@ pub fn count_at(message: &[u8], at: usize) -> Count
         return off;
     }
     let mut none = [0u32; 0];
-    match shape(message, &mut none, end, false, at, 0, OUTERMOST) {
-        Shaped::Refused(_, _) => off,
-        Shaped::Shape {
-            next,
-            row: _,
-            many,
-            order: _,
-        } => Count {
-            start: next,
-            many: many,
-        },
+    let Ok(shaped) = shape(message, &mut none, end, false, at, 0, OUTERMOST) else {
+        return off;
+    };
+    Count {
+        start: shaped.at,
+        many: shaped.many,
     }
 }

@@ -10,8 +10,9 @@ ghost use Rattle.records.specs.Slots.{table_of, slot_of, leaf_place, InTable, Ta
 
 use crate::counts::count_at;
 use crate::fields::fields_at;
-use format::answers::Located;
+use format::answers::Span;
 use format::limits::LIMIT;
+use format::refusals::Refusal;
 use leaf_search::leaves::Seen;
 
 // The last place of a message.
@@ -41,7 +42,13 @@ fn place(
 }
 
 // The slot of a leaf, in schema order, and a record, in storage order, both from 0, of the table whose first byte is at `at`.
-pub fn slot_in(message: &[u8], brace: bool, at: usize, leaf: usize, number: usize) -> Located
+pub fn slot_in(
+    message: &[u8],
+    brace: bool,
+    at: usize,
+    leaf: usize,
+    number: usize,
+) -> Result<Span, Refusal>
     requires { TableHere message.now (opening_of brace) at }
     ensures { (lent row next : ℕ) (token : Token) (under : Forest) → length message.now ≤ limit
         → table message.now lent (opening_of brace) at row ≡ done (node token under none, next)
@@ -49,26 +56,26 @@ pub fn slot_in(message: &[u8], brace: bool, at: usize, leaf: usize, number: usiz
 {
     let end = message.len();
     if MOST < end {
-        return Located::Refused(10);
+        return Err(Refusal::NotThere);
     }
     if end <= at {
-        return Located::Refused(10);
+        return Err(Refusal::NotThere);
     }
     let walk = fields_at(message, at + 2, leaf);
     let seen = walk.seen;
     let total = count_at(message, walk.next + 1);
     match seen {
-        Seen::Left(_) => Located::Refused(10),
+        Seen::Left(_) => Err(Refusal::NotThere),
         Seen::Found(offset, wide) => {
             let many = total.many;
             if many <= number {
-                return Located::Refused(10);
+                return Err(Refusal::NotThere);
             }
             let before = place(
                 brace, many, number, walk.wide, offset, walk.field, walk.span,
             );
             let first = total.start + before;
-            Located::At(first, wide)
+            Ok(Span { first, width: wide })
         }
     }
 }

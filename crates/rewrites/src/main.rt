@@ -3,31 +3,19 @@
 #![tactic(auto)]
 
 mod answers;
-mod buffers;
 mod forms;
 mod meanings;
 mod messages;
-mod show;
 mod tally;
+mod tokens;
 
+use messages::Lent;
 use std::io;
+use tally::Tally;
 
 fn main(rt: HostRuntime) -> io::Result<()> {
-    let mut counts = buffers::counts();
-    let mut message = buffers::message();
-    let mut output = buffers::output();
-    let mut other = buffers::output();
-    let mut rows = buffers::rows();
-    let mut again = buffers::rows();
-    let mut third = buffers::rows();
-    messages::all(
-        &mut message,
-        &mut output,
-        &mut other,
-        &mut rows,
-        &mut again,
-        &mut third,
-        &mut counts,
-    );
-    show::summary(&rt, &counts)
+    let mut lent = Lent::new();
+    let mut t = Tally::new();
+    messages::all(&mut lent, &mut t);
+    print!(rt; "{t}")
 }

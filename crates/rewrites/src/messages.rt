@@ -1,222 +1,184 @@
 // The messages, each by its number.
-use crate::answers::{Numbers, by_reader, by_rewriter, by_second, is_done, is_refused, same};
-use crate::{forms, meanings, tally};
-use memory::{least, same_bytes, same_words, zero_bytes, zero_words};
+use crate::answers::{Answered, Refused, by_reader, by_rewriter, by_second};
+use crate::tally::{Fault, Tally, add};
+use crate::tokens::Tokens;
+use crate::{forms, meanings};
+use generate::ROOM;
+use memory::filled;
 
 // How many messages are made.
 const MESSAGES: u64 = 200_000;
 
-// The bytes of output lent for a message of so many bytes, more than its house form can have.
-fn room(bytes: usize) -> usize {
-    least(bytes, generate::ROOM) * 4 + 64
+// The most bytes of output that are lent, more than any house form can have.
+const OUTPUT: usize = ROOM * 4 + 64;
+
+// The words that are lent: a row to each byte of a message, and a remainder.
+const WORDS: usize = 20490;
+
+// The memory that is lent: for a message, for two house forms, and for the rows of three messages.
+#[derive(Drop)]
+pub struct Lent {
+    message: [u8; ROOM],
+    output: [u8; OUTPUT],
+    other: [u8; OUTPUT],
+    rows: [u32; WORDS],
+    again: [u32; WORDS],
+    third: [u32; WORDS],
+}
+
+impl Lent {
+    // Memory whose bytes and words are zero.
+    pub fn new() -> Lent {
+        Lent {
+            message: filled(0),
+            output: filled(0),
+            other: filled(0),
+            rows: filled(0),
+            again: filled(0),
+            third: filled(0),
+        }
+    }
 }
 
 // Expects all words and bytes zero, after a refusal.
-fn all_zero(counts: &mut [u64], rows: &[u32], output: &[u8]) {
-    tally::expect(
-        counts,
-        tally::LEFT,
-        zero_words(rows, 0) && zero_bytes(output, 0),
-    );
+fn all_zero(rows: &[u32], output: &[u8], t: &mut Tally) {
+    let words = rows.iter().all(|word| *word == 0);
+    t.expect(Fault::Left, words && output.iter().all(|b| *b == 0));
 }
 
 // Reads the house form with both readers.
-fn read_again(counts: &mut [u64], form: &[u8], used: usize, again: &mut [u32], third: &mut [u32]) {
+fn read_again(form: &[u8], used: usize, again: &mut [u32], third: &mut [u32], t: &mut Tally) {
     let a = by_reader(form, again);
     let b = by_second(form, third);
-    tally::expect(counts, tally::AGAIN, is_done(a, used));
-    tally::expect(
-        counts,
-        tally::SECOND,
-        same(a, b) && same_words(again, third),
-    );
+    t.expect(Fault::Again, a == Ok(used));
+    t.expect(Fault::Second, a == b && &*again == &*third);
 }
 
 // Rewrites the house form, into just as much room as it takes.
-fn rewrite_again(
-    counts: &mut [u64],
-    form: &[u8],
-    again: &[u32],
-    third: &mut [u32],
-    other: &mut [u8],
-) {
+fn rewrite_again(form: &[u8], again: &[u32], third: &mut [u32], other: &mut [u8], t: &mut Tally) {
     let a = by_rewriter(form, third, other);
-    let kept = same_bytes(form, other) && same_words(again, third);
-    tally::expect(counts, tally::TWICE, is_done(a, form.len()) && kept);
+    let kept = form == &*other && again == &*third;
+    t.expect(Fault::Twice, a == Ok(form.len()) && kept);
 }
 
 // Rewrites the message into a byte less.
-fn rewrite_short(counts: &mut [u64], message: &[u8], third: &mut [u32], other: &mut [u8]) {
+fn rewrite_short(message: &[u8], third: &mut [u32], other: &mut [u8], t: &mut Tally) {
     let a = by_rewriter(message, third, other);
-    tally::expect(counts, tally::ROOM, is_refused(a, 11, 0));
-    all_zero(counts, third, other);
+    t.expect(Fault::Room, a == Err(Refused(11, 0)));
+    all_zero(third, other, t);
 }
 
 // Counts a message that is rewritten.
-fn count(counts: &mut [u64], message: &[u8], form: &[u8]) {
-    tally::add(counts, tally::REWRITTEN, 1);
-    tally::add(counts, tally::BYTES_READ, message.len());
-    tally::add(counts, tally::BYTES_WRITTEN, form.len());
-    if same_bytes(message, form) {
-        tally::add(counts, tally::UNCHANGED, 1);
-        return;
+fn count(message: &[u8], form: &[u8], t: &mut Tally) {
+    add(&mut t.rewritten, 1);
+    add(&mut t.bytes_read, message.len());
+    add(&mut t.bytes_written, form.len());
+    if message == form {
+        add(&mut t.unchanged, 1);
+    } else {
+        add(&mut t.changed, 1);
     }
-    tally::add(counts, tally::CHANGED, 1);
 }
 
-// Compares the house form of a message that has so many rows used with the message.
+// Compares the house form of a message with it.
 fn compare(
-    counts: &mut [u64],
+    before: Tokens<'_>,
     message: &[u8],
-    rows: &[u32],
-    used: usize,
-    form: &[u8],
     again: &mut [u32],
     third: &mut [u32],
+    t: &mut Tally,
 ) {
-    read_again(counts, form, used, again, third);
-    meanings::all(counts, message, rows, form, again, used);
-    forms::all(counts, form, again, used);
+    read_again(message, before.used, again, third, t);
+    let form = Tokens {
+        message,
+        rows: again,
+        used: before.used,
+    };
+    meanings::all(before, form, t);
+    forms::all(form, t);
 }
 
 // Rewrites the house form again, and the message into less room.
 fn rewrite_both(
-    counts: &mut [u64],
     message: &[u8],
     form: &[u8],
     again: &[u32],
     third: &mut [u32],
     other: &mut [u8],
+    t: &mut Tally,
 ) {
-    let n = least(form.len(), other.len());
-    rewrite_again(counts, form, again, third, &mut other[..n]);
-    let short = least(n, std::num::wrapping_sub_usize(n, 1));
-    rewrite_short(counts, message, third, &mut other[..short]);
+    let n = form.len().min(other.len());
+    rewrite_again(form, again, third, &mut other[..n], t);
+    rewrite_short(message, third, &mut other[..n.saturating_sub(1)], t);
 }
 
 // Looks at what the rewriter answered and left, with n bytes written: the reader's rows, and zeros after the house form.
-fn judge(
-    counts: &mut [u64],
-    answer: Numbers,
-    n: usize,
-    rows: &[u32],
-    third: &[u32],
-    output: &[u8],
-) {
-    tally::expect(counts, tally::ANSWER, is_done(answer, n));
-    let kept = same_words(rows, third) && zero_bytes(output, n);
-    tally::expect(counts, tally::ROWS, kept);
+fn judge(answer: Answered, n: usize, rows: &[u32], third: &[u32], after: &[u8], t: &mut Tally) {
+    t.expect(Fault::Answer, answer == Ok(n));
+    let kept = rows == third && after.iter().all(|b| *b == 0);
+    t.expect(Fault::Rows, kept);
 }
 
-// The output of a message that has so many rows used.
-fn written(
-    counts: &mut [u64],
-    message: &[u8],
-    rows: &[u32],
-    used: usize,
-    answer: Numbers,
-    output: &[u8],
-    again: &mut [u32],
-    third: &mut [u32],
-    other: &mut [u8],
-) {
-    let n = least(answer.size, output.len());
-    judge(counts, answer, n, rows, third, output);
-    let form = &output[..n];
-    count(counts, message, form);
-    compare(counts, message, rows, used, form, again, third);
-    rewrite_both(counts, message, form, again, third, other);
-}
-
-// An accepted message, with so many rows used.
+// Rewrites an accepted message.
 fn accepted(
-    counts: &mut [u64],
-    message: &[u8],
-    rows: &[u32],
-    used: usize,
+    before: Tokens<'_>,
     output: &mut [u8],
+    other: &mut [u8],
     again: &mut [u32],
     third: &mut [u32],
-    other: &mut [u8],
+    t: &mut Tally,
 ) {
-    let a = by_rewriter(message, third, output);
-    written(counts, message, rows, used, a, output, again, third, other);
+    let message = before.message;
+    let answer = by_rewriter(message, third, output);
+    let n = answer.unwrap_or(0).min(output.len());
+    let (form, after) = output.split_at(n);
+    judge(answer, n, before.rows, third, after, t);
+    count(message, form, t);
+    compare(before, form, again, third, t);
+    rewrite_both(message, form, again, third, other, t);
 }
 
 // A refused message, with the reader's answer.
-fn refused(
-    counts: &mut [u64],
-    message: &[u8],
-    answer: Numbers,
-    output: &mut [u8],
-    third: &mut [u32],
-) {
+fn refused(message: &[u8], answer: Answered, output: &mut [u8], third: &mut [u32], t: &mut Tally) {
     let a = by_rewriter(message, third, output);
-    tally::expect(counts, tally::REFUSAL, same(a, answer));
-    all_zero(counts, third, output);
+    t.expect(Fault::Refusal, a == answer);
+    all_zero(third, output, t);
 }
 
-// Reads a message, and goes on by the reader's answer.
-fn read(
-    counts: &mut [u64],
-    message: &[u8],
-    output: &mut [u8],
-    other: &mut [u8],
-    rows: &mut [u32],
-    again: &mut [u32],
-    third: &mut [u32],
-) {
-    let a = by_reader(message, rows);
-    if a.number == 0 {
-        tally::add(counts, tally::ACCEPTED, 1);
-        accepted(counts, message, rows, a.size, output, again, third, other);
-        return;
+// Makes message so and so, lends it words and room, reads it, and goes on by the reader's answer.
+fn one(number: u64, lent: &mut Lent, t: &mut Tally) {
+    let n = generate::message(number, &mut lent.message);
+    let message = &lent.message[..n];
+    let words = generate::words(number, n).min(WORDS);
+    let all_rows = &mut lent.rows[..];
+    let all_again = &mut lent.again[..];
+    let all_third = &mut lent.third[..];
+    let all_output = &mut lent.output[..];
+    let rows = &mut all_rows[..words];
+    let again = &mut all_again[..words];
+    let third = &mut all_third[..words];
+    let output = &mut all_output[..n * 4 + 64];
+    add(&mut t.messages, 1);
+    let answer = by_reader(message, rows);
+    match answer {
+        Ok(used) => {
+            add(&mut t.accepted, 1);
+            let before = Tokens {
+                message,
+                rows,
+                used,
+            };
+            accepted(before, output, &mut lent.other, again, third, t);
+        }
+        Err(_) => refused(message, answer, output, third, t),
     }
-    refused(counts, message, a, output, third);
-}
-
-// Makes message so and so, and lends it words and room.
-fn one(
-    number: u64,
-    message: &mut [u8],
-    output: &mut [u8],
-    other: &mut [u8],
-    rows: &mut [u32],
-    again: &mut [u32],
-    third: &mut [u32],
-    counts: &mut [u64],
-) {
-    let n = generate::message(number, message);
-    let lent = generate::words(number, n);
-    let w = least(least(lent, rows.len()), least(again.len(), third.len()));
-    let k = least(room(n), output.len());
-    tally::add(counts, tally::MESSAGES, 1);
-    read(
-        counts,
-        &message[..n],
-        &mut output[..k],
-        other,
-        &mut rows[..w],
-        &mut again[..w],
-        &mut third[..w],
-    );
 }
 
 // Every message.
-pub fn all(
-    message: &mut [u8],
-    output: &mut [u8],
-    other: &mut [u8],
-    rows: &mut [u32],
-    again: &mut [u32],
-    third: &mut [u32],
-    counts: &mut [u64],
-) {
-    let mut number: u64 = 0;
-    while number < MESSAGES {
-        let before = tally::count(counts, tally::ALL_FAULTS);
-        one(number, message, output, other, rows, again, third, counts);
-        tally::list(counts, number, before);
-        number += 1;
+pub fn all(lent: &mut Lent, t: &mut Tally) {
+    for number in 0..MESSAGES {
+        let before = t.faults;
+        one(number, lent, t);
+        t.list(number, before);
     }
 }

@@ -87,6 +87,7 @@ pub fn group_kinds(
         offset,
     };
     let mut count = 0;
+    // No `for`: how many members there are is known only at the closing mark.
     loop {
         let end = read.offset;
         let start = member_start(

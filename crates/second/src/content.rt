@@ -1,126 +1,112 @@
 // What the bytes of a text, a high-precision number, a char and a boolean may be.
-use crate::bytes::byte;
-use crate::numbers::sum;
+ghost use Rattle.std.specs.Prelude.{◌≤◌, length, IfSome};
 
-// How many bytes the character with this lead byte has; 0 where it is no lead byte.
-fn character(lead: u8) -> u32 {
+// How many bytes the character with this lead byte has after it; none where it is no lead byte.
+fn beyond(lead: u8) -> Option<usize> {
     match lead {
-        0x00..=0x7F => 1,
-        0xC0..=0xDF => 2,
-        0xE0..=0xEF => 3,
-        0xF0..=0xF7 => 4,
-        _ => 0,
+        0x00..=0x7F => Some(0),
+        0xC0..=0xDF => Some(1),
+        0xE0..=0xEF => Some(2),
+        0xF0..=0xF7 => Some(3),
+        _ => None,
     }
 }
 
-// Whether the bytes between two places are all 80 to BF.
-fn are_following(message: &[u8], from: u32, end: u32) -> bool {
-    let mut at = from;
-    while at < end {
-        let b = byte(message, at);
-        if b < 0x80 || 0xBF < b {
+// Whether bytes are all 80 to BF.
+fn are_following(bytes: &[u8]) -> bool {
+    bytes.iter().all(|b| 0x80 <= *b && *b <= 0xBF)
+}
+
+// The bytes after the rest of a character with this lead byte; none where that is wrong.
+fn after_character(lead: u8, bytes: &[u8]) -> Option<&[u8]>
+    ensures { IfSome result (λ after. length after.now ≤ length bytes.now) }
+{
+    let (following, after) = bytes.split_at_checked(beyond(lead)?)?;
+    if are_following(following) {
+        Some(after)
+    } else {
+        None
+    }
+}
+
+// Whether bytes are whole characters.
+fn is_text(bytes: &[u8]) -> bool {
+    let mut left = bytes;
+    while let Some((lead, rest)) = left.split_first() {
+        let Some(after) = after_character(*lead, rest) else {
             return false;
-        }
-        at += 1;
+        };
+        left = after;
     }
     true
 }
 
-// Whether the bytes between two places are whole characters.
-fn is_text(message: &[u8], from: u32, end: u32) -> bool {
-    let mut at = from;
-    while at < end {
-        let bytes = character(byte(message, at));
-        let next = sum(at, bytes);
-        if next <= at || end < next {
-            return false;
-        }
-        if !are_following(message, at + 1, next) {
-            return false;
-        }
-        at = next;
+// The bytes after one of some choices; none where none of them stands here.
+fn after_one_of<'a>(bytes: &'a [u8], choices: &[u8]) -> Option<&'a [u8]> {
+    let (first, rest) = bytes.split_first()?;
+    if choices.contains(first) {
+        Some(rest)
+    } else {
+        None
     }
-    true
 }
 
-// The place after the digits that stand here.
-fn after_digits(message: &[u8], from: u32, end: u32) -> u32 {
-    let mut at = from;
-    while at < end && b'0' <= byte(message, at) && byte(message, at) <= b'9' {
-        at += 1;
+// The bytes after the digits that stand here; none where no digit does.
+fn after_digits(bytes: &[u8]) -> Option<&[u8]> {
+    let digits = bytes.iter().take_while(|b| b.is_ascii_digit()).count();
+    if digits == 0 {
+        return None;
     }
-    at
+    bytes.get(digits..)
 }
 
-// Whether a byte stands at a place before the end.
-fn stands(message: &[u8], at: u32, end: u32, b: u8) -> bool {
-    at < end && byte(message, at) == b
+// The bytes after the whole part of a number; none where there is none.
+fn after_whole(bytes: &[u8]) -> Option<&[u8]> {
+    match after_one_of(bytes, b"0") {
+        Some(after) => Some(after),
+        None => after_digits(bytes),
+    }
 }
 
-// The place after the one of two bytes that stands here, or here.
-fn after_either(message: &[u8], at: u32, end: u32, one: u8, other: u8) -> u32 {
-    if stands(message, at, end, one) || stands(message, at, end, other) {
-        return sum(at, 1);
+// The bytes after a point and digits, where a point stands here; none where it has no digits.
+fn after_fraction(bytes: &[u8]) -> Option<&[u8]> {
+    match after_one_of(bytes, b".") {
+        Some(digits) => after_digits(digits),
+        None => Some(bytes),
     }
-    at
 }
 
-// The place after the whole part of a number; here where there is none.
-fn after_whole(message: &[u8], at: u32, end: u32) -> u32 {
-    if stands(message, at, end, b'0') {
-        return sum(at, 1);
+// The bytes after an exponent, where an `e` or `E` stands here; none where it has no digits.
+fn after_exponent(bytes: &[u8]) -> Option<&[u8]> {
+    match after_one_of(bytes, b"eE") {
+        Some(sign) => after_digits(after_one_of(sign, b"+-").unwrap_or(sign)),
+        None => Some(bytes),
     }
-    after_digits(message, at, end)
 }
 
-// The place after a point and digits, where a point stands here; 0 where it has no digits.
-fn after_fraction(message: &[u8], at: u32, end: u32) -> u32 {
-    if !stands(message, at, end, b'.') {
-        return at;
-    }
-    let digits = sum(at, 1);
-    let next = after_digits(message, digits, end);
-    if next == digits {
-        return 0;
-    }
-    next
+// The bytes after a JSON number; none where none stands here.
+fn after_number(bytes: &[u8]) -> Option<&[u8]> {
+    let whole = after_one_of(bytes, b"-").unwrap_or(bytes);
+    after_exponent(after_fraction(after_whole(whole)?)?)
 }
 
-// The place after an exponent, where an `e` or `E` stands here; 0 where it has no digits.
-fn after_exponent(message: &[u8], at: u32, end: u32) -> u32 {
-    let sign = after_either(message, at, end, b'e', b'E');
-    if sign == at {
-        return at;
-    }
-    let digits = after_either(message, sign, end, b'+', b'-');
-    let next = after_digits(message, digits, end);
-    if next == digits {
-        return 0;
-    }
-    next
+// Whether bytes are a JSON number.
+fn is_number(bytes: &[u8]) -> bool {
+    after_number(bytes).is_some_and(|after| after.is_empty())
 }
 
-// Whether the bytes between two places are a JSON number.
-fn is_number(message: &[u8], from: u32, end: u32) -> bool {
-    let first = after_either(message, from, end, b'-', b'-');
-    let whole = after_whole(message, first, end);
-    if whole == first {
-        return false;
-    }
-    let fraction = after_fraction(message, whole, end);
-    if fraction == 0 {
-        return false;
-    }
-    after_exponent(message, fraction, end) == end
+// Whether a byte is a char.
+pub fn is_char(b: u8) -> bool {
+    b < 128
 }
 
-// Whether the bytes between two places are right for a mark: a text's, a number's, a char's; in a record, a boolean's.
-pub fn is_content(message: &[u8], mark: u8, from: u32, end: u32) -> bool {
+// Whether bytes are right for a mark: a text's, a number's, a char's; in a record, a boolean's.
+pub fn is_content(mark: u8, bytes: &[u8]) -> bool {
     match mark {
-        b'S' => is_text(message, from, end),
-        b'H' => is_number(message, from, end),
-        b'C' => byte(message, from) < 128,
-        b'T' => byte(message, from) == b'T' || byte(message, from) == b'F',
+        b'S' => is_text(bytes),
+        b'H' => is_number(bytes),
+        b'C' => bytes.iter().all(|b| is_char(*b)),
+        b'T' => bytes.iter().all(|b| matches!(*b, b'T' | b'F')),
         _ => true,
     }
 }

@@ -11,6 +11,7 @@ mod integers;
 mod machine;
 mod numbers;
 mod payloads;
+mod refusals;
 mod schema;
 mod table;
 mod token;
@@ -18,9 +19,9 @@ mod values;
 mod vectors;
 
 use format::answers::{Answer, Edition};
-use frames::Frame;
+use frames::{Frame, MESSAGE, Task};
 use machine::Machine;
-use numbers::{number, product, sum};
+use refusals::{Reason, Refusal};
 
 // The most bytes of a message.
 const LIMIT: usize = 1_048_576;
@@ -28,90 +29,77 @@ const LIMIT: usize = 1_048_576;
 // The steps that are enough. A step that takes no byte closes a frame or turns it to another task, three times a frame at most; and
 // a frame opens with a byte, all but the message's.
 fn steps(end: u32) -> u32 {
-    product(sum(end, 1), 8)
+    end.saturating_add(1).saturating_mul(8)
 }
 
-// A step in what belongs to a header, a schema or dimensions.
-fn header_step(
-    message: &[u8],
-    rows: &mut [u32],
-    frames: &mut [u32],
-    m: Machine,
-    f: Frame,
-) -> Machine {
-    let task = f.task;
-    match task {
-        frames::FIELD => schema::field(message, rows, frames, m, f),
-        frames::KIND => schema::field_kind(message, rows, frames, m, f),
-        frames::FIXED => schema::fixed(message, frames, m, f),
-        frames::ELEMENT => schema::element(message, rows, frames, m, f),
-        frames::OUTER => vectors::outer(message, frames, m, f),
-        frames::VECTOR => vectors::own(message, frames, m, f),
-        frames::VECTOR_TYPE => vectors::type_mark(message, frames, m, f),
-        frames::VECTOR_HASH => values::hash(message, frames, m, f, frames::VECTOR_COUNT),
-        frames::VECTOR_COUNT => vectors::count(message, frames, m, f),
-        _ => vectors::dimension(message, rows, frames, m, f),
+// A step in what belongs to a schema or to dimensions.
+fn header_step(m: &mut Machine<'_, '_>, f: Frame) -> Result<(), Refusal> {
+    match f.task {
+        Task::Field => schema::field(m, f),
+        Task::FieldKind => schema::field_kind(m, f),
+        Task::Fixed => schema::fixed(m, f),
+        Task::Element => schema::element(m, f),
+        Task::Outer => vectors::outer(m, f),
+        Task::Vector => vectors::own(m, f),
+        Task::VectorType => vectors::type_mark(m, f),
+        Task::VectorHash => values::hash(m, f, Task::VectorCount),
+        Task::VectorCount => vectors::count(m, f),
+        _ => vectors::dimension(m, f),
     }
 }
 
 // A step: what the innermost frame says must come next.
-fn step(message: &[u8], rows: &mut [u32], frames: &mut [u32], m: Machine) -> Machine {
-    let f = frames::top(frames, m);
-    let task = f.task;
-    match task {
-        frames::MESSAGE => values::message_value(message, rows, frames, m, f),
-        frames::AFTER => values::after_value(message, frames, m),
-        frames::HEADER => values::header(message, frames, m, f),
-        frames::TYPE => values::type_mark(message, frames, m, f),
-        frames::HASH => values::hash(message, frames, m, f, frames::COUNT),
-        frames::COUNT => values::count(message, frames, m, f),
-        frames::MEMBER => values::member(message, rows, frames, m, f),
-        frames::VALUE => values::member_value(message, rows, frames, m, f),
-        frames::PAYLOAD => payloads::payload(message, rows, frames, m, f),
-        _ => header_step(message, rows, frames, m, f),
+fn step(m: &mut Machine<'_, '_>, f: Frame) -> Result<(), Refusal> {
+    match f.task {
+        Task::Message => values::message_value(m, f),
+        Task::After => values::after_value(m),
+        Task::Header => values::header(m, f),
+        Task::Type => values::type_mark(m, f),
+        Task::Hash => values::hash(m, f, Task::Count),
+        Task::Count => values::count(m, f),
+        Task::Member => values::member(m, f),
+        Task::Value => values::member_value(m, f),
+        Task::Payload => payloads::payload(m, f),
+        _ => header_step(m, f),
     }
 }
 
-// Steps until no frame is open.
-fn run(message: &[u8], rows: &mut [u32], frames: &mut [u32], start: Machine) -> Machine {
-    let mut m = start;
-    let mut left = steps(start.end);
-    while 0 < left && 0 < m.open {
-        m = step(message, rows, frames, m);
-        left -= 1;
+// Steps until no frame is open. Were one still open, the steps would not have been enough: that would show as a refusal of no number.
+fn run(m: &mut Machine<'_, '_>) -> Result<(), Refusal> {
+    if LIMIT < m.message.len() {
+        return Err(Refusal::new(Reason::TooLong, 0));
     }
-    m
+    m.stack.push(MESSAGE);
+    for _ in 0..steps(m.end()) {
+        match m.stack.innermost() {
+            None => return Ok(()),
+            Some(f) => step(m, f)?,
+        }
+    }
+    if m.stack.open() == 0 {
+        Ok(())
+    } else {
+        Err(Refusal::new(Reason::Unfinished, 0))
+    }
 }
 
-// What the machine ended with; rows that it didn't fill are zero, on refusal all. Were a frame still open, the steps would not have
-// been enough: that would show as a refusal of no number.
-fn answer(rows: &mut [u32], m: Machine) -> Answer {
-    if 0 < m.number || 0 < m.open {
-        table::clear(rows, 0);
-        return Answer::Refused(m.number, m.place as usize);
-    }
-    table::clear(rows, m.row);
-    Answer::Done(m.row as usize)
-}
-
-// Whether an edition has extensions.
-fn has_extensions(edition: Edition) -> bool {
-    match edition {
-        Edition::Old => false,
-        Edition::New => true,
+// What the machine ends with: the rows used, or a refusal's number and place. Rows that aren't filled are zero, on refusal all.
+fn answer(m: &mut Machine<'_, '_>) -> Answer {
+    match run(m) {
+        Ok(()) => {
+            m.rows.clear(m.row);
+            Answer::Done(m.row as usize)
+        }
+        Err(refusal) => {
+            m.rows.clear(0);
+            Answer::Refused(refusal.number(), refusal.place())
+        }
     }
 }
 
 // Reads a message of an edition into lent rows: the rows used, or a refusal's number and place.
 pub fn read(edition: Edition, message: &[u8], rows: &mut [u32]) -> Answer {
-    let extensions = has_extensions(edition);
-    let lent = number(rows.len() / table::ROW);
-    let mut m = Machine::new(number(message.len()), lent, extensions);
-    if LIMIT < message.len() {
-        return answer(rows, m.refuse(1, 0));
-    }
-    let mut stack = [0u32; frames::ALL];
-    m = frames::push(&mut stack, m, Frame::new(m, frames::MESSAGE, 0));
-    m = run(message, rows, &mut stack, m);
-    answer(rows, m)
+    let extensions = matches!(edition, Edition::New);
+    let mut m = Machine::new(message, rows, extensions);
+    answer(&mut m)
 }

@@ -1,163 +1,150 @@
 // The payloads of packed arrays and tables: how long they are, and what stands in them.
 use crate::bytes::width;
-use crate::content::is_content;
-use crate::frames::Frame;
+use crate::content::{is_char, is_content};
+use crate::frames::{Frame, Members};
 use crate::integers::LIMIT;
 use crate::machine::Machine;
-use crate::numbers::{MOST, difference, product, sum};
-use crate::{frames, table, token};
+use crate::numbers::number;
+use crate::refusals::{Reason, Refusal};
+use crate::table::{Entry, Kind};
 
 // The most bytes of a record.
 const RECORD: u32 = 65_536;
 
-// No place: no content is wrong.
-const NONE: u32 = MOST;
-
 // A value of a table: the rows of its kinds, its bytes, and where they begin in the record.
 #[derive(Clone, Copy)]
-struct Field {
+struct Extent {
     from: u32,
     to: u32,
     offset: u32,
     bytes: u32,
 }
 
-// The place of a packed array's first wrong element.
-fn wrong_element(message: &[u8], mark: u8, from: u32, end: u32) -> u32 {
-    let mut at = from;
-    while at < end {
-        if !is_content(message, mark, at, sum(at, 1)) {
-            return at;
-        }
-        at += 1;
+// What the row of a record, or of a field's kind, says.
+fn extent_of(m: &Machine<'_, '_>, row: u32) -> Extent {
+    Extent {
+        from: row,
+        to: m.rows.link(row),
+        offset: m.rows.offset(row),
+        bytes: m.rows.bytes(row),
     }
-    NONE
+}
+
+// The place of the first wrong char of a packed array, between two places.
+fn wrong_char(m: &Machine<'_, '_>, from: u32, end: u32) -> Option<u32> {
+    let wrong = m.between(from, end).iter().position(|b| !is_char(*b))?;
+    Some(from.saturating_add(number(wrong)))
 }
 
 // The place of the first wrong leaf of one value, which begins at a place.
-fn wrong_leaf(message: &[u8], rows: &[u32], f: Field, at: u32) -> u32 {
-    let mut row = f.from;
-    while row < f.to {
-        let first = sum(at, difference(table::row_word(rows, row, 3), f.offset));
-        let end = sum(first, table::row_word(rows, row, 4));
-        let mark = frames::mark_of(table::row_word(rows, row, 1));
-        if table::row_word(rows, row, 0) == 9 && !is_content(message, mark, first, end) {
-            return first;
+fn wrong_leaf(m: &Machine<'_, '_>, value: Extent, at: u32) -> Option<u32> {
+    for row in value.from..value.to {
+        if let Some(mark) = m.rows.leaf_mark(row) {
+            let offset = m.rows.offset(row).saturating_sub(value.offset);
+            let first = at.saturating_add(offset);
+            let end = first.saturating_add(m.rows.bytes(row));
+            if !is_content(mark, m.between(first, end)) {
+                return Some(first);
+            }
         }
-        row += 1;
     }
-    NONE
+    None
 }
 
 // The place of the first wrong leaf of so many values that stand end to end from a place on.
-fn wrong_value(message: &[u8], rows: &[u32], f: Field, from: u32, values: u32) -> u32 {
-    let end = sum(from, product(values, f.bytes));
-    let mut at = from;
-    while at < end {
-        let wrong = wrong_leaf(message, rows, f, at);
-        if wrong != NONE {
+fn wrong_value(m: &Machine<'_, '_>, value: Extent, from: u32, values: u32) -> Option<u32> {
+    if value.bytes == 0 {
+        return None;
+    }
+    for i in 0..values {
+        let at = from.saturating_add(value.bytes.saturating_mul(i));
+        let wrong = wrong_leaf(m, value, at);
+        if wrong.is_some() {
             return wrong;
         }
-        let next = sum(at, f.bytes);
-        if next <= at {
-            return NONE;
-        }
-        at = next;
     }
-    NONE
+    None
 }
 
-// What the row of a record, or of a field's kind, says.
-fn extent(rows: &[u32], row: u32) -> Field {
-    Field {
-        from: row,
-        to: table::row_word(rows, row, 6),
-        offset: table::row_word(rows, row, 3),
-        bytes: table::row_word(rows, row, 4),
-    }
-}
-
-// The place of the first wrong leaf of a table by columns: each field of the schema is one column.
-fn wrong_column(message: &[u8], rows: &[u32], schema: Field, from: u32, records: u32) -> u32 {
-    let mut key = sum(schema.from, 1);
+// The place of the first wrong leaf of a table by columns: each field of the schema is one column. A field's row says where the next
+// key is, so that no range lists the keys and the loop follows the rows.
+fn wrong_column(m: &Machine<'_, '_>, schema: Extent, from: u32, records: u32) -> Option<u32> {
+    let mut key = schema.from.saturating_add(1);
     while key < schema.to {
-        let f = extent(rows, sum(key, 1));
-        let first = sum(from, product(records, f.offset));
-        let wrong = wrong_value(message, rows, f, first, records);
-        if wrong != NONE {
+        let field = extent_of(m, key.saturating_add(1));
+        let first = from.saturating_add(records.saturating_mul(field.offset));
+        let wrong = wrong_value(m, field, first, records);
+        if wrong.is_some() || field.to <= key {
             return wrong;
         }
-        if f.to <= key {
-            return NONE;
-        }
-        key = f.to;
+        key = field.to;
     }
-    NONE
+    None
 }
 
 // The place of the first wrong content of the payload that stands here.
-fn wrong(message: &[u8], rows: &[u32], m: Machine, f: Frame, end: u32) -> u32 {
-    if f.element == b'C' {
-        return wrong_element(message, f.element, m.at, end);
+fn wrong(m: &Machine<'_, '_>, f: Frame, end: u32) -> Option<u32> {
+    match f.members {
+        Members::Any => None,
+        Members::Marked(mark) if mark == b'C' => wrong_char(m, m.at, end),
+        Members::Marked(_) => None,
+        Members::Records => {
+            let schema = extent_of(m, f.row.saturating_add(1));
+            if f.mark == b'[' {
+                wrong_value(m, schema, m.at, m.product)
+            } else {
+                wrong_column(m, schema, m.at, m.product)
+            }
+        }
     }
-    if f.element != b'{' {
-        return NONE;
-    }
-    let schema = extent(rows, sum(f.row, 1));
-    if f.mark == b'[' {
-        return wrong_value(message, rows, schema, m.at, m.product);
-    }
-    wrong_column(message, rows, schema, m.at, m.product)
 }
 
 // The bytes of one element or record.
-fn unit(m: Machine, f: Frame) -> u32 {
-    if f.element == b'{' {
-        return m.offset;
+fn unit(m: &Machine<'_, '_>, f: Frame) -> u32 {
+    match f.members {
+        Members::Any => 0,
+        Members::Marked(mark) => width(mark),
+        Members::Records => m.offset,
     }
-    width(f.element)
 }
 
-// Stores the row of a packed array or a table.
-fn close(rows: &mut [u32], frames: &[u32], m: Machine, f: Frame, length: u32) -> Machine {
-    let kind: u32 = if f.element == b'{' { 8 } else { 7 };
-    let mark: u8 = if f.element == b'{' { f.mark } else { f.element };
-    let closed = frames::pop(frames, m);
-    token::store(
-        rows,
-        closed,
+// Stores the row of a packed array or a table, and goes past its payload.
+fn close(m: &mut Machine<'_, '_>, f: Frame, length: u32) {
+    let (kind, mark) = match f.members {
+        Members::Any => (Kind::Packed, 0),
+        Members::Marked(mark) => (Kind::Packed, mark),
+        Members::Records => (Kind::Table, f.mark),
+    };
+    m.stack.pop();
+    m.store(
         f.row,
-        [
+        Entry {
             kind,
-            mark as u32,
-            f.first,
-            m.at,
+            mark,
+            first: f.first,
+            payload: m.at,
             length,
-            m.product,
-            m.row,
-            m.order,
-        ],
+            count: m.product,
+            order: m.order,
+        },
     );
-    closed.past(length)
+    m.skip(length);
 }
 
 // The payload, which stands here: product or record size, payload end, content.
-pub fn payload(message: &[u8], rows: &mut [u32], frames: &[u32], m: Machine, f: Frame) -> Machine {
-    if LIMIT < m.product {
-        return m.refuse(5, f.first);
-    }
+pub fn payload(m: &mut Machine<'_, '_>, f: Frame) -> Result<(), Refusal> {
     let bytes = unit(m, f);
-    if RECORD < bytes {
-        return m.refuse(5, f.first);
+    if LIMIT < m.product || RECORD < bytes {
+        return Err(Refusal::new(Reason::Limit, f.first));
     }
-    let length = product(m.product, bytes);
-    let end = sum(m.at, length);
-    if m.end < end {
-        return m.early();
+    let length = m.product.saturating_mul(bytes);
+    let end = m.at.saturating_add(length);
+    if m.end() < end {
+        return Err(m.early());
     }
-    let place = wrong(message, rows, m, f, end);
-    if place != NONE {
-        return m.refuse(4, place);
+    if let Some(place) = wrong(m, f, end) {
+        return Err(Refusal::new(Reason::Content, place));
     }
-    close(rows, frames, m, f, length)
+    close(m, f, length);
+    Ok(())
 }

@@ -1,167 +1,138 @@
 // Schemas: records and fixed arrays of kinds.
-use crate::bytes::{byte, closing, is_type, width};
-use crate::frames::Frame;
+use crate::bytes::{closing, is_type, width};
+use crate::frames::{Frame, Task};
 use crate::integers::integer;
 use crate::machine::Machine;
-use crate::numbers::{difference, sum};
-use crate::token::Entry;
-use crate::{frames, token};
+use crate::refusals::{Reason, Refusal};
+use crate::table::{Entry, Kind, Order};
+use crate::token;
 
 // The most levels, the outer schema being 1.
 const LEVELS: u32 = 8;
 
 // Opens a record or a fixed array, at its mark.
-pub fn open(frames: &mut [u32], m: Machine, task: u32, mark: u8) -> Machine {
+pub fn open(m: &mut Machine<'_, '_>, task: Task, mark: u8) -> Result<(), Refusal> {
     let at = m.at;
     if LEVELS <= m.levels {
-        return m.refuse(7, at);
+        return Err(Refusal::new(Reason::Depth, at));
     }
-    if m.full() {
-        return m.refuse(8, at);
-    }
-    let mut group = Frame::new(m, task, mark);
-    group.start = m.offset;
-    let mut opened = frames::push(frames, m, group);
-    opened.row = sum(m.row, 1);
-    opened.levels = sum(m.levels, 1);
-    opened.past(1)
+    m.need_row(at)?;
+    let opened = Frame {
+        start: m.offset,
+        ..m.frame(task, mark)
+    };
+    m.open(opened);
+    m.row = m.row.saturating_add(1);
+    m.levels = m.levels.saturating_add(1);
+    Ok(())
 }
 
 // Closes a record or a fixed array, at its closing mark: its row is stored, and its kinds have moved the offset.
-fn close(rows: &mut [u32], frames: &[u32], m: Machine, f: Frame) -> Machine {
-    let kind: u32 = if f.mark == b'{' { 10 } else { 11 };
-    let mark = f.mark as u32;
-    let bytes = difference(m.offset, f.start);
-    let mut closed = frames::pop(frames, m);
-    token::store(
-        rows,
-        closed,
+fn close(m: &mut Machine<'_, '_>, f: Frame) {
+    m.stack.pop();
+    m.store(
         f.row,
-        [kind, mark, f.first, f.start, bytes, f.count, m.row, 0],
+        Entry {
+            kind: if f.mark == b'{' {
+                Kind::Record
+            } else {
+                Kind::FixedArray
+            },
+            mark: f.mark,
+            first: f.first,
+            payload: f.start,
+            length: m.offset.saturating_sub(f.start),
+            count: f.count,
+            order: Order::Without,
+        },
     );
-    closed.levels = difference(m.levels, 1);
-    closed.past(1)
+    m.levels = m.levels.saturating_sub(1);
+    m.skip(1);
 }
 
 // Whether the record or the fixed array ends here, with one member at least.
-fn ends(message: &[u8], m: Machine, f: Frame) -> bool {
-    0 < f.count && byte(message, m.at) == closing(f.mark)
+fn ends(m: &Machine<'_, '_>, f: Frame) -> bool {
+    0 < f.count && m.byte() == closing(f.mark)
 }
 
 // A field's key, or the record's end.
-pub fn field(
-    message: &[u8],
-    rows: &mut [u32],
-    frames: &mut [u32],
-    m: Machine,
-    f: Frame,
-) -> Machine {
-    if ends(message, m, f) {
-        return close(rows, frames, m, f);
+pub fn field(m: &mut Machine<'_, '_>, f: Frame) -> Result<(), Refusal> {
+    if ends(m, f) {
+        close(m, f);
+        return Ok(());
     }
-    frames::keep(frames, m, f.counted().turned(frames::KIND));
-    token::key(message, rows, m)
+    m.stack.keep(f.counted().turned(Task::FieldKind));
+    token::key(m)
 }
 
 // A field's kind.
-pub fn field_kind(
-    message: &[u8],
-    rows: &mut [u32],
-    frames: &mut [u32],
-    m: Machine,
-    f: Frame,
-) -> Machine {
-    frames::keep(frames, m, f.turned(frames::FIELD));
-    kind(message, rows, frames, m)
+pub fn field_kind(m: &mut Machine<'_, '_>, f: Frame) -> Result<(), Refusal> {
+    m.stack.keep(f.turned(Task::Field));
+    kind(m)
 }
 
 // After a fixed array's `[`: a `$` there is of a form that isn't read.
-pub fn fixed(message: &[u8], frames: &mut [u32], m: Machine, f: Frame) -> Machine {
-    if byte(message, m.at) == b'$' {
-        return m.refuse(13, f.first);
+pub fn fixed(m: &mut Machine<'_, '_>, f: Frame) -> Result<(), Refusal> {
+    if m.byte() == b'$' {
+        return Err(Refusal::new(Reason::NotBuilt, f.first));
     }
-    frames::keep(frames, m, f.turned(frames::ELEMENT));
-    m
+    m.stack.keep(f.turned(Task::Element));
+    Ok(())
 }
 
 // An element's kind, or the fixed array's end.
-pub fn element(
-    message: &[u8],
-    rows: &mut [u32],
-    frames: &mut [u32],
-    m: Machine,
-    f: Frame,
-) -> Machine {
-    if ends(message, m, f) {
-        return close(rows, frames, m, f);
+pub fn element(m: &mut Machine<'_, '_>, f: Frame) -> Result<(), Refusal> {
+    if ends(m, f) {
+        close(m, f);
+        return Ok(());
     }
-    frames::keep(frames, m, f.counted());
-    kind(message, rows, frames, m)
+    m.stack.keep(f.counted());
+    kind(m)
 }
 
 // A leaf's row, when its kind has been read; the offset moves by its bytes.
-fn leaf(rows: &mut [u32], m: Machine, mark: u8, first: u32, bytes: u32) -> Machine {
-    let mut after = take_leaf(rows, m, mark, first, bytes);
-    after.offset = sum(m.offset, bytes);
-    after
-}
-
-// Stores a leaf in the next row.
-fn take_leaf(rows: &mut [u32], m: Machine, mark: u8, first: u32, bytes: u32) -> Machine {
-    token::take_row(
-        rows,
-        m,
-        Entry {
-            kind: 9,
-            mark: mark,
-            first: first,
-            payload: m.offset,
-            length: bytes,
-            count: 0,
-        },
-    )
+fn leaf(m: &mut Machine<'_, '_>, mark: u8, first: u32, bytes: u32) {
+    m.add(Entry {
+        kind: Kind::Leaf,
+        mark,
+        first,
+        payload: m.offset,
+        length: bytes,
+        count: 0,
+        order: Order::Without,
+    });
+    m.offset = m.offset.saturating_add(bytes);
 }
 
 // A leaf that is its mark alone; a boolean has a byte in a record.
-fn plain(rows: &mut [u32], m: Machine, mark: u8) -> Machine {
+fn plain(m: &mut Machine<'_, '_>, mark: u8) -> Result<(), Refusal> {
     let first = m.at;
-    if m.full() {
-        return m.refuse(8, first);
-    }
-    if mark == b'T' {
-        return leaf(rows, m.past(1), mark, first, 1);
-    }
-    leaf(rows, m.past(1), mark, first, width(mark))
+    m.need_row(first)?;
+    m.skip(1);
+    leaf(m, mark, first, if mark == b'T' { 1 } else { width(mark) });
+    Ok(())
 }
 
 // A text leaf: its mark, and how many bytes.
-fn text(message: &[u8], rows: &mut [u32], m: Machine) -> Machine {
+fn text(m: &mut Machine<'_, '_>) -> Result<(), Refusal> {
     let first = m.at;
-    if m.full() {
-        return m.refuse(8, first);
-    }
-    let after = integer(message, m.past(1));
-    if after.refused() {
-        return after;
-    }
-    leaf(rows, after, b'S', first, after.value)
+    m.need_row(first)?;
+    m.skip(1);
+    let bytes = integer(m)?;
+    leaf(m, b'S', first, bytes);
+    Ok(())
 }
 
 // A kind.
-fn kind(message: &[u8], rows: &mut [u32], frames: &mut [u32], m: Machine) -> Machine {
-    let at = m.at;
-    let mark = byte(message, at);
+fn kind(m: &mut Machine<'_, '_>) -> Result<(), Refusal> {
+    let mark = m.byte();
     match mark {
-        b'S' => text(message, rows, m),
-        b'H' => m.refuse(13, at),
-        b'{' => open(frames, m, frames::FIELD, mark),
-        b'[' => open(frames, m, frames::FIXED, mark),
-        b'T' | b'Z' => plain(rows, m, mark),
-        _ => {
-            if is_type(mark) {
-                return plain(rows, m, mark);
-            }
-            m.unexpected()
-        }
+        b'S' => text(m),
+        b'H' => Err(Refusal::new(Reason::NotBuilt, m.at)),
+        b'{' => open(m, Task::Field, mark),
+        b'[' => open(m, Task::Fixed, mark),
+        b'T' | b'Z' => plain(m, mark),
+        _ if is_type(mark) => plain(m, mark),
+        _ => Err(m.unexpected()),
     }
 }

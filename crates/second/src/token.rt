@@ -1,183 +1,114 @@
 // Tokens that hold no others: each takes the next row.
-use crate::bytes::{byte, is_integer, width};
+use crate::bytes::{is_integer, width};
 use crate::content::is_content;
 use crate::integers::{bare, integer};
 use crate::machine::Machine;
-use crate::numbers::{product, sum};
-use crate::table;
+use crate::refusals::{Reason, Refusal};
+use crate::table::{Entry, Kind, Order};
 
-// What a row says of a token that holds no others.
-#[derive(Clone, Copy)]
-pub struct Entry {
-    pub kind: u32,
-    pub mark: u8,
-    pub first: u32,
-    pub payload: u32,
-    pub length: u32,
-    pub count: u32,
-}
-
-// Stores the row of a token that stands in what is open, given its first eight words.
-pub fn store(rows: &mut [u32], m: Machine, row: u32, values: [u32; 8]) {
-    table::store_row(rows, row, values, m.parent, m.depth);
-}
-
-// Stores the token in the next row.
-pub fn take_row(rows: &mut [u32], m: Machine, t: Entry) -> Machine {
-    let mut after = m;
-    let mark = t.mark as u32;
-    let link = sum(m.row, 1);
-    store(
-        rows,
-        m,
-        m.row,
-        [t.kind, mark, t.first, t.payload, t.length, t.count, link, 0],
-    );
-    after.row = link;
-    after
+// The bytes of a scalar, a text or a number, which stand here, so many; its token began at the place given.
+fn content(
+    m: &mut Machine<'_, '_>,
+    kind: Kind,
+    mark: u8,
+    first: u32,
+    length: u32,
+) -> Result<(), Refusal> {
+    let payload = m.at;
+    let bytes = m.take(length)?;
+    if mark != b'T' && !is_content(mark, bytes) {
+        return Err(Refusal::new(Reason::Content, payload));
+    }
+    m.add(Entry {
+        kind,
+        mark,
+        first,
+        payload,
+        length,
+        count: 0,
+        order: Order::Without,
+    });
+    Ok(())
 }
 
 // The bytes of a scalar, which stand here; its token began at the place given.
-fn payload(message: &[u8], rows: &mut [u32], m: Machine, mark: u8, first: u32) -> Machine {
-    if m.full() {
-        return m.refuse(8, first);
-    }
-    let start = m.at;
-    let after = m.past(width(mark));
-    if m.end < after.at {
-        return m.early();
-    }
-    if mark == b'C' && !is_content(message, mark, start, after.at) {
-        return m.refuse(4, start);
-    }
-    take_row(
-        rows,
-        after,
-        Entry {
-            kind: 1,
-            mark: mark,
-            first: first,
-            payload: start,
-            length: width(mark),
-            count: 0,
-        },
-    )
+fn payload(m: &mut Machine<'_, '_>, mark: u8, first: u32) -> Result<(), Refusal> {
+    m.need_row(first)?;
+    content(m, Kind::Scalar, mark, first, width(mark))
 }
 
 // A scalar, at its mark.
-pub fn scalar(message: &[u8], rows: &mut [u32], m: Machine) -> Machine {
+pub fn scalar(m: &mut Machine<'_, '_>) -> Result<(), Refusal> {
     let first = m.at;
-    payload(message, rows, m.past(1), byte(message, first), first)
+    let mark = m.byte();
+    m.skip(1);
+    payload(m, mark, first)
 }
 
 // A scalar without mark: of the type given.
-pub fn unmarked(message: &[u8], rows: &mut [u32], m: Machine, mark: u8) -> Machine {
+pub fn unmarked(m: &mut Machine<'_, '_>, mark: u8) -> Result<(), Refusal> {
     let first = m.at;
-    if m.end <= first {
-        return m.early();
+    if m.end() <= first {
+        return Err(m.early());
     }
-    payload(message, rows, m, mark, first)
-}
-
-// The bytes of a text or a number, which stand here; their length was read last.
-fn characters(
-    message: &[u8],
-    rows: &mut [u32],
-    m: Machine,
-    kind: u32,
-    mark: u8,
-    first: u32,
-) -> Machine {
-    let start = m.at;
-    let after = m.past(m.value);
-    if m.end < after.at {
-        return m.early();
-    }
-    if !is_content(message, mark, start, after.at) {
-        return m.refuse(4, start);
-    }
-    take_row(
-        rows,
-        after,
-        Entry {
-            kind: kind,
-            mark: mark,
-            first: first,
-            payload: start,
-            length: m.value,
-            count: 0,
-        },
-    )
+    payload(m, mark, first)
 }
 
 // A text or a number, at its mark.
-pub fn text(message: &[u8], rows: &mut [u32], m: Machine, kind: u32) -> Machine {
+pub fn text(m: &mut Machine<'_, '_>, kind: Kind) -> Result<(), Refusal> {
     let first = m.at;
-    if m.full() {
-        return m.refuse(8, first);
-    }
-    let after = integer(message, m.past(1));
-    if after.refused() {
-        return after;
-    }
-    characters(message, rows, after, kind, byte(message, first), first)
+    let mark = m.byte();
+    m.need_row(first)?;
+    m.skip(1);
+    let length = integer(m)?;
+    content(m, kind, mark, first, length)
 }
 
 // A key, at the mark of its length.
-pub fn key(message: &[u8], rows: &mut [u32], m: Machine) -> Machine {
+pub fn key(m: &mut Machine<'_, '_>) -> Result<(), Refusal> {
     let first = m.at;
-    if !is_integer(byte(message, first)) {
-        return m.unexpected();
+    if !is_integer(m.byte()) {
+        return Err(m.unexpected());
     }
-    if m.full() {
-        return m.refuse(8, first);
-    }
-    let after = integer(message, m);
-    if after.refused() {
-        return after;
-    }
-    characters(message, rows, after, 4, b'S', first)
+    m.need_row(first)?;
+    let length = integer(m)?;
+    content(m, Kind::Key, b'S', first, length)
 }
 
 // The number of a dimension, which stands here; its token began at the place given.
-fn dimension(message: &[u8], rows: &mut [u32], m: Machine, mark: u8, first: u32) -> Machine {
-    if m.full() {
-        return m.refuse(8, first);
-    }
-    let mut after = bare(message, m, mark, first);
-    if after.refused() {
-        return after;
-    }
-    after.product = product(m.product, after.value);
-    take_row(
-        rows,
-        after,
-        Entry {
-            kind: 12,
-            mark: mark,
-            first: first,
-            payload: m.at,
-            length: width(mark),
-            count: after.value,
-        },
-    )
+fn dimension(m: &mut Machine<'_, '_>, mark: u8, first: u32) -> Result<(), Refusal> {
+    m.need_row(first)?;
+    let payload = m.at;
+    let number = bare(m, mark, first)?;
+    m.product = m.product.saturating_mul(number);
+    m.add(Entry {
+        kind: Kind::Dimension,
+        mark,
+        first,
+        payload,
+        length: width(mark),
+        count: number,
+        order: Order::Without,
+    });
+    Ok(())
 }
 
 // A dimension at its mark.
-pub fn marked_dimension(message: &[u8], rows: &mut [u32], m: Machine) -> Machine {
+pub fn marked_dimension(m: &mut Machine<'_, '_>) -> Result<(), Refusal> {
     let first = m.at;
-    let mark = byte(message, first);
+    let mark = m.byte();
     if !is_integer(mark) {
-        return m.unexpected();
+        return Err(m.unexpected());
     }
-    dimension(message, rows, m.past(1), mark, first)
+    m.skip(1);
+    dimension(m, mark, first)
 }
 
 // A dimension without mark: of the type given.
-pub fn bare_dimension(message: &[u8], rows: &mut [u32], m: Machine, mark: u8) -> Machine {
+pub fn bare_dimension(m: &mut Machine<'_, '_>, mark: u8) -> Result<(), Refusal> {
     let first = m.at;
-    if m.end <= first {
-        return m.early();
+    if m.end() <= first {
+        return Err(m.early());
     }
-    dimension(message, rows, m, mark, first)
+    dimension(m, mark, first)
 }

@@ -1,120 +1,105 @@
 // Dimension vectors.
-use crate::bytes::{byte, is_integer};
-use crate::frames::Frame;
+use crate::bytes::is_integer;
+use crate::frames::{Frame, Members, Task};
 use crate::integers::integer;
 use crate::machine::Machine;
-use crate::{frames, token};
+use crate::refusals::{Reason, Refusal};
+use crate::table::Order;
+use crate::token;
 
 // The most dimensions.
 const DIMENSIONS: u32 = 8;
 
 // Opens a vector at its `[`, of which a further one may follow.
-pub fn open(frames: &mut [u32], m: Machine, task: u32) -> Machine {
-    let mut opened = frames::push(frames, m, Frame::new(m, task, b'['));
-    opened.product = 1;
-    opened.order = 1;
-    opened.past(1)
+pub fn open(m: &mut Machine<'_, '_>, task: Task) {
+    let opened = m.frame(task, b'[');
+    m.open(opened);
+    m.product = 1;
+    m.order = Order::Slowest;
 }
 
 // After a `[` that may be the outer one.
-pub fn outer(message: &[u8], frames: &mut [u32], m: Machine, f: Frame) -> Machine {
-    frames::keep(frames, m, f.turned(frames::VECTOR));
-    if byte(message, m.at) != b'[' {
-        return m;
+pub fn outer(m: &mut Machine<'_, '_>, f: Frame) -> Result<(), Refusal> {
+    m.stack.keep(f.turned(Task::Vector));
+    if m.byte() == b'[' {
+        m.skip(1);
+        m.order = Order::Fastest;
     }
-    let mut wrapped = m.past(1);
-    wrapped.order = 2;
-    wrapped
+    Ok(())
 }
 
 // After the vector's own `[`.
-pub fn own(message: &[u8], frames: &mut [u32], m: Machine, f: Frame) -> Machine {
-    match byte(message, m.at) {
-        b'$' => {
-            frames::keep(frames, m, f.turned(frames::VECTOR_TYPE));
-            m.past(1)
-        }
-        b'#' => {
-            frames::keep(frames, m, f.turned(frames::VECTOR_COUNT));
-            m.past(1)
-        }
-        _ => {
-            frames::keep(frames, m, f.turned(frames::DIMENSION));
-            m
-        }
+pub fn own(m: &mut Machine<'_, '_>, f: Frame) -> Result<(), Refusal> {
+    match m.byte() {
+        b'$' => m.pass(f.turned(Task::VectorType)),
+        b'#' => m.pass(f.turned(Task::VectorCount)),
+        _ => m.stack.keep(f.turned(Task::Dimension)),
     }
+    Ok(())
 }
 
 // After the vector's `$`: the mark of its integers.
-pub fn type_mark(message: &[u8], frames: &mut [u32], m: Machine, f: Frame) -> Machine {
-    let mark = byte(message, m.at);
+pub fn type_mark(m: &mut Machine<'_, '_>, f: Frame) -> Result<(), Refusal> {
+    let mark = m.byte();
     if !is_integer(mark) {
-        return m.unexpected();
+        return Err(m.unexpected());
     }
-    let mut typed = f.turned(frames::VECTOR_HASH);
-    typed.element = mark;
-    frames::keep(frames, m, typed);
-    m.past(1)
+    m.pass(Frame {
+        members: Members::Marked(mark),
+        ..f.turned(Task::VectorHash)
+    });
+    Ok(())
 }
 
 // After the vector's `#`: how many dimensions.
-pub fn count(message: &[u8], frames: &mut [u32], m: Machine, f: Frame) -> Machine {
-    let after = integer(message, m);
-    if after.refused() {
-        return after;
+pub fn count(m: &mut Machine<'_, '_>, f: Frame) -> Result<(), Refusal> {
+    let total = integer(m)?;
+    if total == 0 || DIMENSIONS < total {
+        return Err(Refusal::new(Reason::Integer, f.first));
     }
-    if after.value == 0 || DIMENSIONS < after.value {
-        return after.refuse(6, f.first);
-    }
-    let mut counted = f.turned(frames::DIMENSION);
-    counted.total = after.value;
-    frames::keep(frames, after, counted);
-    after
+    m.stack.keep(Frame {
+        total: Some(total),
+        ..f.turned(Task::Dimension)
+    });
+    Ok(())
 }
 
 // The vector's end: under a further `[` a `]` follows.
-fn close(message: &[u8], frames: &[u32], m: Machine) -> Machine {
-    if m.order == 1 {
-        return frames::pop(frames, m);
+fn close(m: &mut Machine<'_, '_>) -> Result<(), Refusal> {
+    if m.order == Order::Fastest {
+        if m.byte() != b']' {
+            return Err(m.unexpected());
+        }
+        m.skip(1);
     }
-    if byte(message, m.at) != b']' {
-        return m.unexpected();
-    }
-    frames::pop(frames, m.past(1))
+    m.stack.pop();
+    Ok(())
 }
 
 // One dimension, by the vector's form.
-fn one(message: &[u8], rows: &mut [u32], m: Machine, f: Frame) -> Machine {
-    if f.element == 0 {
-        return token::marked_dimension(message, rows, m);
+fn one(m: &mut Machine<'_, '_>, f: Frame) -> Result<(), Refusal> {
+    match f.members {
+        Members::Marked(mark) => token::bare_dimension(m, mark),
+        _ => token::marked_dimension(m),
     }
-    token::bare_dimension(message, rows, m, f.element)
 }
 
 // A dimension, or the vector's end.
-pub fn dimension(
-    message: &[u8],
-    rows: &mut [u32],
-    frames: &mut [u32],
-    m: Machine,
-    f: Frame,
-) -> Machine {
-    if f.count == f.total {
-        return close(message, frames, m);
+pub fn dimension(m: &mut Machine<'_, '_>, f: Frame) -> Result<(), Refusal> {
+    if f.is_full() {
+        return close(m);
     }
-    if f.total == frames::ENDLESS && byte(message, m.at) == b']' {
+    if f.total.is_none() && m.byte() == b']' {
         if f.count == 0 {
-            return m.refuse(6, f.first);
+            return Err(Refusal::new(Reason::Integer, f.first));
         }
-        return close(message, frames, m.past(1));
+        m.skip(1);
+        return close(m);
     }
-    frames::keep(frames, m, f.counted());
-    let after = one(message, rows, m, f);
-    if after.refused() {
-        return after;
-    }
+    m.stack.keep(f.counted());
+    one(m, f)?;
     if DIMENSIONS <= f.count {
-        return after.refuse(6, f.first);
+        return Err(Refusal::new(Reason::Integer, f.first));
     }
-    after
+    Ok(())
 }

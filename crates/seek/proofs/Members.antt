@@ -22,7 +22,7 @@ use Rattle.tokens.specs.Answers.{Laid, onto}
 use Rattle.containers.specs.Lists.{closed}
 use Rattle.items.specs.Items.{Opened}
 use Rattle.seek.specs.Walks.{Comes, Walks}
-use Rattle.std.specs.Prelude.{Result, Ok, Err}
+use Rattle.std.specs.Prelude.{Result, Ok}
 use Rattle.seek.specs.declared.steps.Past.{Past}
 use Rattle.seek.specs.declared.steps.Stop.{Stop}
 use Rattle.seek.proofs.Tableless.{Tableless, empty, no_tables, container_no_table, tableless_kept, items_kept}

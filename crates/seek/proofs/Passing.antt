@@ -18,7 +18,7 @@ use Rattle.tokens.specs.declared.End.{End}
 use Rattle.seek.specs.Tables.{Found}
 use Rattle.seek.specs.Walks.{Walks}
 use Rattle.seek.proofs.Tableless.{OneTable, one_table, table_gives, no_tables, typed_as_tableless}
-use Rattle.seek.proofs.Back.{no_fault, parts}
+use Rattle.seek.proofs.Back.{parts}
 
 -- what was read whole is passed, if so many tables are in it
 pub pass_whole : (e : End) (m : List ℕ) (row k left left' : ℕ) (o : Parsed Forest) (ancestry : Ancestry) (before after : List ℕ)

@@ -1,9 +1,10 @@
 // Bytes in hex: lines of sixteen, and a mark under some of them.
-use numbers::{byte, least, less, sum};
-use wording::block::{Block, line, repeated, spaces};
-use wording::digits::{hex_byte, right};
-use wording::phrases::{put, with};
-use wording::{block, tables};
+ghost use Rattle.std.specs.Prelude.{◌≤◌};
+
+use std::fmt;
+use std::fmt::{Display, Formatter, Write};
+use wording::block::Block;
+use wording::names::plural;
 
 // The bytes of a line.
 pub const WIDE: usize = 16;
@@ -17,12 +18,33 @@ const PLACE: usize = 8;
 // The columns before a line's first byte.
 const BEFORE: usize = 10;
 
-// Colours, by their lines in the table below: none, and those of what is refused and of what is accepted.
-pub const PLAIN: usize = 0;
+// Colours: none, and those of what is refused and of what is accepted.
+#[derive(Clone, Copy, PartialEq, Eq)]
+pub enum Color {
+    Plain,
+    Red,
+    Green,
+}
 
-pub const RED: usize = 1;
+impl Color {
+    // This colour from here on, if asked for.
+    pub fn begin(self, out: &mut Block, paint: bool) {
+        if paint {
+            write!(out, "{self}");
+        }
+    }
+}
 
-pub const GREEN: usize = 2;
+impl Display for Color {
+    // What turns a terminal to a colour.
+    fn fmt<W: Write>(&self, f: &mut Formatter<W>) -> fmt::Result {
+        f.write_str(match self {
+            Color::Plain => "\x1b[0m",
+            Color::Red => "\x1b[31m",
+            Color::Green => "\x1b[32m",
+        })
+    }
+}
 
 // A part of the bytes that is marked: its first byte, the byte after it, and whether with colour.
 #[derive(Clone, Copy)]
@@ -32,176 +54,115 @@ struct Part {
     paint: bool,
 }
 
-// A colour from here on, if asked for.
-pub fn color(out: &mut Block, at: usize, color: usize, paint: bool) -> usize {
-    if paint {
-        return tables::line(out, at, b"\x1b[0m\n\x1b[31m\n\x1b[32m", color);
-    }
-    at
+// Three columns for each byte of a line.
+fn columns(bytes: usize) -> usize
+    ensures { result ≤ 48 }
+{
+    bytes.min(WIDE) * 3
 }
 
-// Three columns for each byte.
-fn columns(bytes: usize) -> usize {
-    least(bytes, WIDE) * 3
+// The bytes from a place on, before another; none where the message ends before that.
+fn bytes_of(message: &[u8], from: usize, end: usize) -> &[u8] {
+    message.get(from..end).unwrap_or(&[])
 }
 
 // The bytes from a place on, before another, with a space before each.
-pub fn cells(out: &mut Block, at: usize, message: &[u8], from: usize, end: usize) -> usize {
-    let mut next = at;
-    let mut i = from;
-    while i < end {
-        let gap = block::byte(out, next, b' ');
-        next = hex_byte(out, gap, byte(message, i));
-        i += 1;
+pub fn cells(out: &mut Block, message: &[u8], from: usize, end: usize) {
+    for b in bytes_of(message, from, end) {
+        write!(out, " {b:02x}");
     }
-    next
 }
 
-// A byte as a character; a point where it is none.
-fn character(b: u8) -> u8 {
-    if 0x20 <= b && b < 0x7F {
-        return b;
+// The bytes from a place on, before another, as characters; a point for a byte that is none.
+fn characters(out: &mut Block, message: &[u8], from: usize, end: usize) {
+    for &b in bytes_of(message, from, end) {
+        out.byte(if matches!(b, 0x20..=0x7E) { b } else { b'.' });
     }
-    b'.'
-}
-
-// The bytes from a place on, before another, as characters.
-fn characters(out: &mut Block, at: usize, message: &[u8], from: usize, end: usize) -> usize {
-    let mut next = at;
-    let mut i = from;
-    while i < end {
-        next = block::byte(out, next, character(byte(message, i)));
-        i += 1;
-    }
-    next
 }
 
 // Where a line ends that starts at a place of a part.
 fn line_end(from: usize, end: usize) -> usize {
-    least(sum(from, WIDE), end)
+    from.saturating_add(WIDE).min(end)
 }
 
 // The place of a line, and its bytes.
-fn row(out: &mut Block, at: usize, message: &[u8], from: usize, end: usize) -> usize {
-    let place = right(out, at, from, PLACE);
-    let gap = block::byte(out, place, b' ');
-    cells(out, gap, message, from, line_end(from, end))
+fn row(out: &mut Block, message: &[u8], from: usize, end: usize) {
+    out.right(from, PLACE);
+    out.byte(b' ');
+    cells(out, message, from, line_end(from, end));
 }
 
 // The same, and spaces up to the column after them.
-pub fn head(out: &mut Block, at: usize, message: &[u8], from: usize, end: usize) -> usize {
-    let shown = row(out, at, message, from, end);
-    let wide = columns(less(line_end(from, end), from));
-    spaces(out, shown, sum(less(columns(WIDE), wide), 2))
+pub fn head(out: &mut Block, message: &[u8], from: usize, end: usize) {
+    row(out, message, from, end);
+    let wide = columns(line_end(from, end).saturating_sub(from));
+    out.spaces(columns(WIDE).saturating_sub(wide) + 2);
 }
 
 // One line, with the characters.
-fn full_line(out: &mut Block, at: usize, message: &[u8], from: usize) -> usize {
+fn full_line(out: &mut Block, message: &[u8], from: usize) {
     let end = message.len();
-    if end <= from {
-        let place = right(out, at, from, PLACE);
-        return line(out, place);
+    if from < end {
+        head(out, message, from, end);
+        characters(out, message, from, line_end(from, end));
+    } else {
+        out.right(from, PLACE);
     }
-    let shown = head(out, at, message, from, end);
-    let drawn = characters(out, shown, message, from, line_end(from, end));
-    line(out, drawn)
+    out.line();
 }
 
 // The lines that follow the first of a part, with no characters.
-pub fn rest(out: &mut Block, at: usize, message: &[u8], from: usize, end: usize) -> usize {
-    let mut next = at;
-    let mut i = sum(from, WIDE);
-    while i < end {
-        let stop = line_end(i, end);
-        let shown = row(out, next, message, i, end);
-        next = line(out, shown);
-        if stop <= i {
-            return next;
-        }
-        i = stop;
+pub fn rest(out: &mut Block, message: &[u8], from: usize, end: usize) {
+    for start in (from..end).step_by(WIDE).skip(1) {
+        row(out, message, start, end);
+        out.line();
     }
-    next
 }
 
 // The lines with characters from a place on, before another.
-pub fn lines(out: &mut Block, at: usize, message: &[u8], from: usize, end: usize) -> usize {
-    let mut next = at;
-    let mut i = from;
-    while i < end {
-        next = full_line(out, next, message, i);
-        let stop = sum(i, WIDE);
-        if stop <= i {
-            return next;
-        }
-        i = stop;
+pub fn lines(out: &mut Block, message: &[u8], from: usize, end: usize) {
+    for start in (from..end).step_by(WIDE) {
+        full_line(out, message, start);
     }
-    next
 }
 
 // Marks under those bytes of a line that belong to a part.
-fn carets(out: &mut Block, at: usize, start: usize, p: Part) -> usize {
-    let column = less(p.first, start);
-    let stop = least(less(p.end, start), WIDE);
-    let gap = spaces(out, at, sum(BEFORE, columns(column)));
-    let begun = color(out, gap, RED, p.paint);
-    let drawn = repeated(out, begun, b'^', less(columns(less(stop, column)), 1));
-    let ended = color(out, drawn, PLAIN, p.paint);
-    line(out, ended)
+fn carets(out: &mut Block, start: usize, p: Part) {
+    let column = p.first.saturating_sub(start);
+    let stop = p.end.saturating_sub(start).min(WIDE);
+    out.spaces(columns(column) + BEFORE);
+    Color::Red.begin(out, p.paint);
+    out.repeated(b'^', columns(stop.saturating_sub(column)).saturating_sub(1));
+    Color::Plain.begin(out, p.paint);
+    out.line();
 }
 
 // The lines from one on, before a place, with marks under a part.
-fn marked(out: &mut Block, at: usize, message: &[u8], start: usize, stop: usize, p: Part) -> usize {
-    let mut next = at;
-    let mut i = start;
-    while i < stop {
-        let here = full_line(out, next, message, i);
-        next = carets(out, here, i, p);
-        let after = sum(i, WIDE);
-        if after <= i {
-            return next;
-        }
-        i = after;
+fn marked(out: &mut Block, message: &[u8], from: usize, stop: usize, p: Part) {
+    for start in (from..stop).step_by(WIDE) {
+        full_line(out, message, start);
+        carets(out, start, p);
     }
-    next
 }
 
 // What follows the marked lines of a part: the line after it, or how many more bytes it has.
-fn following(out: &mut Block, at: usize, message: &[u8], stop: usize, end: usize) -> usize {
+fn following(out: &mut Block, message: &[u8], stop: usize, end: usize) {
     if stop < end {
-        let left = with(0, less(end, stop), 0, 0);
-        return put(out, at, b"          and # more byte$~", left);
+        let left = end - stop;
+        writeln!(out, "          and {left} more byte{}", plural(left));
+        return;
     }
-    let last = less(stop, 1);
-    let column = last % WIDE;
-    let after = sum(last - column, WIDE);
-    lines(
-        out,
-        at,
-        message,
-        after,
-        least(sum(after, WIDE), message.len()),
-    )
+    let last = stop.saturating_sub(1);
+    let after = (last - last % WIDE).saturating_add(WIDE);
+    lines(out, message, after, line_end(after, message.len()));
 }
 
 // The bytes around a part: its lines with marks under it, the line before and the line after. Of a longer part the first lines.
-pub fn around(
-    out: &mut Block,
-    at: usize,
-    message: &[u8],
-    first: usize,
-    width: usize,
-    paint: bool,
-) -> usize {
-    let column = first % WIDE;
-    let start = first - column;
-    let end = sum(first, width);
-    let stop = least(end, sum(start, MARKED));
-    let p = Part {
-        first: first,
-        end: end,
-        paint: paint,
-    };
-    let before = lines(out, at, message, less(start, WIDE), start);
-    let shown = marked(out, before, message, start, stop, p);
-    following(out, shown, message, stop, end)
+pub fn around(out: &mut Block, message: &[u8], first: usize, width: usize, paint: bool) {
+    let start = first - first % WIDE;
+    let end = first.saturating_add(width);
+    let stop = start.saturating_add(MARKED).min(end);
+    lines(out, message, start.saturating_sub(WIDE), start);
+    marked(out, message, start, stop, Part { first, end, paint });
+    following(out, message, stop, end);
 }

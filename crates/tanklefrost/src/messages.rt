@@ -47,13 +47,11 @@ pub extern "C" fn tanklefrost_read(edition: u32, message: &[u8], rows: &mut [u32
     ensures answer { result ≡ reading_for (rows_used (read_numbered edition message.now rows.old)) }
     ensures words { rows.new ≡ words_after (length rows.old) (read_numbered edition message.now rows.old) }
 {
-    match edition_of(edition) {
-        Some(e) => Reading::from(reader::message::read(e, message, rows)),
-        None => {
-            clear(rows);
-            Reading::from(NO_EDITION)
-        }
-    }
+    let Some(edition) = edition_of(edition) else {
+        clear(rows);
+        return Reading::from(NO_EDITION);
+    };
+    Reading::from(reader::message::read(edition, message, rows))
 }
 
 // Rewrites a message to house form by an edition's number; a number that names none is 12. The rows then hold the message's rows. What
@@ -69,12 +67,10 @@ pub extern "C" fn tanklefrost_rewrite(
     ensures output { output.new ≡ output_after (length output.old) (rewrite_numbered edition message.now (rows_in rows.old) (length output.old)) }
     ensures words { rows.new ≡ rewrite_words_after (length rows.old) (read_numbered edition message.now rows.old) (rewrite_numbered edition message.now (rows_in rows.old) (length output.old)) }
 {
-    match edition_of(edition) {
-        Some(e) => Reading::from(rewriter::message::rewrite(e, message, rows, output)),
-        None => {
-            clear(rows);
-            clear(output);
-            Reading::from(NO_EDITION)
-        }
-    }
+    let Some(edition) = edition_of(edition) else {
+        clear(rows);
+        clear(output);
+        return Reading::from(NO_EDITION);
+    };
+    Reading::from(rewriter::message::rewrite(edition, message, rows, output))
 }

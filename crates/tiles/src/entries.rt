@@ -1,49 +1,59 @@
-// The list of a message's slots: five numbers are an entry.
-use numbers::{least, narrow, sum, wide};
+// The list of a message's slots.
+ghost use Rattle.std.specs.Prelude.{◌≤◌};
+
+use memory::filled;
 
 // The entries that the list has room for.
-pub const ENTRIES: usize = 1024;
+const ENTRIES: usize = 1024;
 
-// The numbers of an entry: the row of its packed array or table, the row of its leaf (of a packed array the same row), the number of
-// its element or record, its first byte, its width.
-const NUMBERS: usize = 5;
-
-pub const ROW: usize = 0;
-
-pub const LEAF: usize = 1;
-
-pub const NUMBER: usize = 2;
-
-pub const FIRST: usize = 3;
-
-pub const WIDTH: usize = 4;
-
-// Where number k of an entry stands; of an entry that the list hasn't, past the list's end.
-fn place(entry: usize, k: usize) -> usize {
-    sum(least(entry, ENTRIES) * NUMBERS, k)
+// A slot: the row of its packed array or table, the row of its leaf (of a packed array the same row), the number of its element or
+// record, its first byte, its width.
+#[derive(Clone, Copy, Default)]
+pub struct Entry {
+    pub row: usize,
+    pub leaf: usize,
+    pub number: usize,
+    pub first: usize,
+    pub width: usize,
 }
 
-// Number k of an entry; 0 where there is none.
-pub fn get(list: &[u32], entry: usize, k: usize) -> usize {
-    let at = place(entry, k);
-    if at < list.len() {
-        return wide(list[at]);
+// The list: its first entries are in use.
+#[derive(Drop)]
+pub struct List {
+    pub entries: [Entry; ENTRIES],
+    pub len: usize,
+    ghost within: { len ≤ 1024 },
+}
+
+impl List {
+    // A list with no entry in use.
+    pub fn new() -> List {
+        List {
+            entries: filled(Entry::default()),
+            len: 0,
+        }
     }
-    0
-}
 
-// Stores number k of an entry where there is room.
-pub fn set(list: &mut [u32], entry: usize, k: usize, value: usize) {
-    let at = place(entry, k);
-    if at < list.len() {
-        list[at] = narrow(value);
+    // Takes every entry out of use.
+    pub fn clear(&mut self) {
+        self.len = 0;
     }
-}
 
-// Stores the address of an entry; answers the next entry.
-pub fn put(list: &mut [u32], entry: usize, row: usize, leaf: usize, number: usize) -> usize {
-    set(list, entry, ROW, row);
-    set(list, entry, LEAF, leaf);
-    set(list, entry, NUMBER, number);
-    sum(entry, 1)
+    // How many entries more there is room for.
+    pub fn room(&self) -> usize {
+        ENTRIES - self.len
+    }
+
+    // Adds an entry where there is room.
+    pub fn push(&mut self, entry: Entry) {
+        if self.len < ENTRIES {
+            self.entries[self.len] = entry;
+            self.len += 1;
+        }
+    }
+
+    // The entries in use.
+    pub fn as_slice(&self) -> &[Entry] {
+        &self.entries[..self.len]
+    }
 }

@@ -1,92 +1,85 @@
 // The messages, each by its number.
-use crate::tally::{Tally, next, none};
-use crate::{changes, payloads, readings};
+use crate::accepted::Accepted;
+use crate::entries::List;
+use crate::tally::{Tally, count};
+use crate::{changes, payload, readings};
 use format::answers::{Answer, Edition};
-use numbers::{least, narrow};
+use generate::ROOM;
+use memory::filled;
 use rows::ROW_WORDS;
 
 // How many messages are made.
 const MESSAGES: u64 = 40_000;
 
-// The words of as many rows as there are bytes.
-fn words_for(bytes: usize) -> usize {
-    least(bytes, generate::ROOM) * ROW_WORDS
+// The words of as many rows as a message has bytes.
+const WORDS: usize = ROOM * ROW_WORDS;
+
+// The memory that is lent: for a message and its rows, for a changed one and its rows, and for the list of its slots.
+#[derive(Drop)]
+pub struct Lent {
+    message: [u8; ROOM],
+    rows: [u32; WORDS],
+    other: [u8; ROOM],
+    again: [u32; WORDS],
+    list: List,
 }
 
-// Goes through the slots of an accepted message, and tries changes.
-fn accepted(
-    number: u64,
-    message: &[u8],
-    other: &mut [u8],
-    rows: &[u32],
-    again: &mut [u32],
-    list: &mut [u32],
-    used: usize,
-    t: Tally,
-) -> Tally {
-    let mut counted = t;
-    counted.accepted = next(t.accepted);
-    let listed = payloads::all(rows, narrow(message.len()), used, list, counted);
-    let read = readings::all(message, rows, list, listed);
-    changes::copy(message, other, 0, message.len());
-    changes::all(number, message, other, rows, again, list, read)
-}
-
-// Reads a message, and goes on if it is accepted.
-fn read(
-    number: u64,
-    message: &[u8],
-    other: &mut [u8],
-    rows: &mut [u32],
-    again: &mut [u32],
-    list: &mut [u32],
-    t: Tally,
-) -> Tally {
-    match reader::message::read(Edition::New, message, rows) {
-        Answer::Refused(_, _) => t,
-        Answer::Done(used) => accepted(number, message, other, rows, again, list, used, t),
+impl Lent {
+    // Memory whose bytes and words are zero.
+    pub fn new() -> Lent {
+        Lent {
+            message: filled(0),
+            rows: filled(0),
+            other: filled(0),
+            again: filled(0),
+            list: List::new(),
+        }
     }
 }
 
-// Makes message so and so, and lends as many rows as it has bytes.
-fn one(
+// Goes through the slots of an accepted message that has so many rows used, and tries changes.
+fn accepted(
     number: u64,
-    message: &mut [u8],
+    accepted: Accepted<'_>,
+    used: usize,
     other: &mut [u8],
-    rows: &mut [u32],
     again: &mut [u32],
-    list: &mut [u32],
-    t: Tally,
-) -> Tally {
-    let mut made = t;
-    made.messages = next(t.messages);
-    let length = generate::message(number, message);
-    let bytes = least(length, other.len());
-    let words = least(words_for(bytes), least(rows.len(), again.len()));
-    read(
-        number,
-        &message[..bytes],
-        &mut other[..bytes],
-        &mut rows[..words],
-        &mut again[..words],
-        list,
-        made,
-    )
+    list: &mut List,
+    t: &mut Tally,
+) {
+    count(&mut t.accepted);
+    payload::all(accepted.rows, accepted.size(), used, list, t);
+    readings::all(accepted, list, t);
+    changes::all(number, accepted, other, again, list, t);
+}
+
+// Makes message so and so, reads it with as many rows lent as it has bytes, and goes on if it is accepted.
+fn one(number: u64, lent: &mut Lent, t: &mut Tally) {
+    count(&mut t.messages);
+    let length = generate::message(number, &mut lent.message);
+    let words = length * ROW_WORDS;
+    let message = &lent.message[..length];
+    let all_rows = &mut lent.rows[..];
+    let rows = &mut all_rows[..words];
+    let other = &mut lent.other[..];
+    let again = &mut lent.again[..];
+    match reader::message::read(Edition::New, message, rows) {
+        Answer::Refused(_, _) => {}
+        Answer::Done(used) => accepted(
+            number,
+            Accepted { message, rows },
+            used,
+            &mut other[..length],
+            &mut again[..words],
+            &mut lent.list,
+            t,
+        ),
+    }
 }
 
 // Goes through all messages.
-pub fn all(
-    message: &mut [u8],
-    other: &mut [u8],
-    rows: &mut [u32],
-    again: &mut [u32],
-    list: &mut [u32],
-) -> Tally {
-    let mut t = none();
-    let mut number: u64 = 0;
-    while number < MESSAGES {
-        t = one(number, message, other, rows, again, list, t);
-        number += 1;
+pub fn all(lent: &mut Lent, t: &mut Tally) {
+    for number in 0..MESSAGES {
+        one(number, lent, t);
     }
-    t
 }

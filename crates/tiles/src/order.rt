@@ -1,92 +1,55 @@
 // The addresses of a packed array or a table, in storage order.
-use crate::entries;
+use crate::entries::List;
+use crate::payload::Payload;
+use crate::tally::Tally;
+use crate::tiling::entry;
 use format::marks::Mark;
-use grid::shape::{is_packed, leaves, link, names, schema_end};
-use numbers::{quotient, sum};
-use rows::word;
+use grid::shape::{leaves, link, schema_end};
 
-// Whether it has at most so many slots.
-pub fn fits(rows: &[u32], row: usize, room: usize) -> bool {
-    word(rows, row, 5) <= quotient(room, leaves(rows, row))
+// The slots that a packed array or a table may have to be gone through.
+const SLOTS: usize = 256;
+
+// Whether it has at most so many slots, and the list room for them.
+pub fn fits(payload: Payload<'_>, list: &List) -> bool {
+    let room = SLOTS.min(list.room());
+    let leaves = leaves(payload.rows, payload.row);
+    payload.word(5) <= room.checked_div(leaves).unwrap_or(0)
 }
 
-// Lists the slot of one value that a row names, if it names one; answers the next entry.
-fn list_leaf(
-    rows: &[u32],
-    row: usize,
-    leaf: usize,
-    number: usize,
-    list: &mut [u32],
-    entry: usize,
-) -> usize {
-    if names(rows, row, leaf) {
-        return entries::put(list, entry, row, leaf, number);
+// Lists one value for each element or record: the slots that some rows name, each asked for.
+fn list_values(payload: Payload<'_>, from: usize, to: usize, list: &mut List, t: &mut Tally) {
+    for number in 0..payload.word(5) {
+        for leaf in (from..to).filter(|leaf| payload.names(*leaf)) {
+            list.push(entry(payload, leaf, number, t));
+        }
     }
-    entry
-}
-
-// Lists the slots of one value, which are named by some of these rows.
-fn list_value(
-    rows: &[u32],
-    row: usize,
-    from: usize,
-    to: usize,
-    number: usize,
-    list: &mut [u32],
-    entry: usize,
-) -> usize {
-    let mut next = entry;
-    let mut r = from;
-    while r < to {
-        next = list_leaf(rows, row, r, number, list, next);
-        r += 1;
-    }
-    next
-}
-
-// Lists one value for each element or record.
-fn list_values(
-    rows: &[u32],
-    row: usize,
-    from: usize,
-    to: usize,
-    list: &mut [u32],
-    entry: usize,
-) -> usize {
-    let count = word(rows, row, 5);
-    let mut next = entry;
-    let mut number: usize = 0;
-    while number < count {
-        next = list_value(rows, row, from, to, number, list, next);
-        number += 1;
-    }
-    next
 }
 
 // Lists the top-level fields of a table, each with one value for each record.
-fn list_columns(rows: &[u32], row: usize, list: &mut [u32], entry: usize) -> usize {
-    let end = schema_end(rows, row);
-    let mut next = entry;
-    let mut key = sum(row, 2);
+fn list_columns(payload: Payload<'_>, list: &mut List, t: &mut Tally) {
+    let rows = payload.rows;
+    let end = schema_end(rows, payload.row);
+    let mut key = payload.row.saturating_add(2);
+    // The step is a field, which is some rows.
     while key < end {
         let field = link(rows, key);
         let after = link(rows, field);
-        next = list_values(rows, row, field, after, list, next);
+        list_values(payload, field, after, list, t);
         if after <= key {
-            return next;
+            return;
         }
         key = after;
     }
-    next
 }
 
 // Lists its slots.
-pub fn list_slots(rows: &[u32], row: usize, list: &mut [u32], entry: usize) -> usize {
-    if is_packed(rows, row) {
-        return list_values(rows, row, row, sum(row, 1), list, entry);
+pub fn list_slots(payload: Payload<'_>, list: &mut List, t: &mut Tally) {
+    let row = payload.row;
+    if payload.is_packed() {
+        list_values(payload, row, payload.next(), list, t);
+    } else if payload.word(1) == usize::from(Mark::OBJECT) {
+        list_columns(payload, list, t);
+    } else {
+        list_values(payload, row, schema_end(payload.rows, row), list, t);
     }
-    if word(rows, row, 1) == Mark::OBJECT as usize {
-        return list_columns(rows, row, list, entry);
-    }
-    list_values(rows, row, row, schema_end(rows, row), list, entry)
 }

@@ -1,12 +1,10 @@
 // Addresses that name no slot: each must be refused with the number that document 01 says.
+use crate::payload::Payload;
 use crate::same::is_refusal;
-use crate::tally::{Tally, next};
+use crate::tally::{Tally, count};
 use addresses::calls::{packed_slot, table_slot};
 use format::answers::Located;
-use grid::ask::located;
 use grid::shape;
-use grid::shape::names;
-use numbers::{less, set_index, sum};
 
 // No such address, and rows that don't fit the request.
 const NOT_THERE: u32 = 10;
@@ -14,82 +12,72 @@ const NOT_THERE: u32 = 10;
 const DONT_FIT: u32 = 12;
 
 // Counts an answer that must be this refusal.
-fn refused(answer: Located, number: u32, t: Tally) -> Tally {
-    let mut after = t.expect(is_refusal(answer, number));
-    after.outside = next(t.outside);
-    after
+fn refused(answer: Located, number: u32, t: &mut Tally) {
+    t.expect(is_refusal(answer, number));
+    count(&mut t.outside);
 }
 
 // One index too few, and one too many.
-fn counts(rows: &[u32], size: u32, row: usize, leaf: usize, t: Tally) -> Tally {
+fn counts(payload: Payload<'_>, leaf: usize, t: &mut Tally) {
     let indexes = [0usize; 9];
-    let n = shape::rank(rows, row);
-    let short = located(rows, size, row, leaf, &indexes, less(n, 1));
-    let long = located(rows, size, row, leaf, &indexes, sum(n, 1));
-    refused(long, NOT_THERE, refused(short, NOT_THERE, t))
+    let n = payload.rank();
+    let short = payload.located(leaf, &indexes, n.saturating_sub(1));
+    let long = payload.located(leaf, &indexes, n.saturating_add(1));
+    refused(short, NOT_THERE, t);
+    refused(long, NOT_THERE, t);
 }
 
 // The slot of the address with every index 0 but one, which is as large as its dimension.
-fn past(rows: &[u32], size: u32, row: usize, leaf: usize, j: usize) -> Located {
+fn past(payload: Payload<'_>, leaf: usize, j: usize) -> Located {
     let mut indexes = [0usize; 9];
-    set_index(&mut indexes, j, shape::extent(rows, row, j));
-    located(rows, size, row, leaf, &indexes, shape::rank(rows, row))
+    if let Some(index) = indexes.get_mut(j) {
+        *index = shape::extent(payload.rows, payload.row, j);
+    }
+    payload.located(leaf, &indexes, payload.rank())
 }
 
 // An index as large as its dimension, for each index.
-fn ranges(rows: &[u32], size: u32, row: usize, leaf: usize, t: Tally) -> Tally {
-    let n = shape::rank(rows, row);
-    let mut after = t;
-    let mut j: usize = 0;
-    while j < n {
-        after = refused(past(rows, size, row, leaf, j), NOT_THERE, after);
-        j += 1;
+fn ranges(payload: Payload<'_>, leaf: usize, t: &mut Tally) {
+    for j in 0..payload.rank() {
+        refused(past(payload, leaf, j), NOT_THERE, t);
     }
-    after
 }
 
 // Another row in the place of the leaf; of a packed array there is none.
-fn stranger(rows: &[u32], size: u32, row: usize, leaf: usize, t: Tally) -> Tally {
-    if shape::is_packed(rows, row) {
-        return t;
+fn stranger(payload: Payload<'_>, leaf: usize, t: &mut Tally) {
+    if !payload.is_packed() {
+        let indexes = [0usize; 9];
+        let answer = payload.located(leaf, &indexes, payload.rank());
+        refused(answer, DONT_FIT, t);
     }
-    let indexes = [0usize; 9];
-    let answer = located(rows, size, row, leaf, &indexes, shape::rank(rows, row));
-    refused(answer, DONT_FIT, t)
 }
 
 // With a row in the place of the leaf: wrong indexes where it names slots, and the row itself where it names none.
-fn beside(rows: &[u32], size: u32, row: usize, leaf: usize, t: Tally) -> Tally {
-    if names(rows, row, leaf) {
-        return counts(rows, size, row, leaf, ranges(rows, size, row, leaf, t));
+fn beside(payload: Payload<'_>, leaf: usize, t: &mut Tally) {
+    if payload.names(leaf) {
+        ranges(payload, leaf, t);
+        counts(payload, leaf, t);
+    } else {
+        stranger(payload, leaf, t);
     }
-    stranger(rows, size, row, leaf, t)
 }
 
 // With each row up to one after the last in the place of the leaf.
-pub fn around(rows: &[u32], size: u32, row: usize, used: usize, t: Tally) -> Tally {
-    let mut after = t;
-    let mut r: usize = 0;
-    while r < used {
-        after = beside(rows, size, row, r, after);
-        r += 1;
+pub fn around(payload: Payload<'_>, used: usize, t: &mut Tally) {
+    for leaf in 0..=used {
+        beside(payload, leaf, t);
     }
-    beside(rows, size, row, used, after)
 }
 
 // A row of another kind in the place of a packed array's, and in that of a table's, whose first leaf would be three rows on.
-pub fn other_kinds(rows: &[u32], size: u32, row: usize, t: Tally) -> Tally {
+pub fn other_kinds(payload: Payload<'_>, t: &mut Tally) {
+    let Payload { rows, size, row } = payload;
     let index = [0usize; 1];
-    let mut after = t;
-    if !shape::is_packed(rows, row) {
-        after = refused(packed_slot(rows, size, row, &index), DONT_FIT, after);
+    if !payload.is_packed() {
+        refused(packed_slot(rows, size, row, &index), DONT_FIT, t);
     }
-    if !shape::is_table(rows, row) {
-        after = refused(
-            table_slot(rows, size, row, sum(row, 3), &index),
-            DONT_FIT,
-            after,
-        );
+    if !payload.is_table() {
+        let leaf = row.saturating_add(3);
+        refused(table_slot(rows, size, row, leaf, &index), DONT_FIT, t);
     }
-    after
 }

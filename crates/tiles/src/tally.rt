@@ -1,7 +1,8 @@
 // What the program counts.
+use std::fmt;
 
-// The numbers of the summary, and of the message at hand the slots that are listed.
-#[derive(Clone, Copy)]
+// The numbers of the summary.
+#[derive(Clone, Copy, Default)]
 pub struct Tally {
     pub messages: u64,
     pub accepted: u64,
@@ -16,50 +17,42 @@ pub struct Tally {
     pub compared: u64,
     pub faults: u64,
     pub checksum: u64,
-    pub listed: usize,
 }
 
 // One more.
-pub fn next(n: u64) -> u64 {
-    if n < 0xFFFF_FFFF_FFFF {
-        return n + 1;
-    }
-    n
-}
-
-// Nothing is counted yet.
-pub fn none() -> Tally {
-    Tally {
-        messages: 0,
-        accepted: 0,
-        packed: 0,
-        tables: 0,
-        skipped: 0,
-        asked: 0,
-        outside: 0,
-        read: 0,
-        changes: 0,
-        kept: 0,
-        compared: 0,
-        faults: 0,
-        checksum: 0,
-        listed: 0,
-    }
+pub fn count(n: &mut u64) {
+    *n = n.saturating_add(1);
 }
 
 impl Tally {
     // A fault, unless what is told holds.
-    pub fn expect(mut self, holds: bool) -> Tally {
+    pub fn expect(&mut self, holds: bool) {
         if !holds {
-            self.faults = next(self.faults);
+            count(&mut self.faults);
         }
-        self
     }
 
     // Takes a number into the checksum.
-    pub fn mix(mut self, x: usize) -> Tally {
-        let turned = (self.checksum << 5) ^ (self.checksum >> 59);
-        self.checksum = turned ^ (x as u64);
-        self
+    pub fn mix(&mut self, x: usize) {
+        self.checksum = self.checksum.rotate_left(5) ^ x as u64;
+    }
+}
+
+impl fmt::Display for Tally {
+    // The summary: a line for each number.
+    fn fmt<W: fmt::Write>(&self, f: &mut fmt::Formatter<W>) -> fmt::Result {
+        writeln!(f, "messages: {}", self.messages)?;
+        writeln!(f, "accepted: {}", self.accepted)?;
+        writeln!(f, "packed arrays: {}", self.packed)?;
+        writeln!(f, "tables: {}", self.tables)?;
+        writeln!(f, "skipped for too many slots: {}", self.skipped)?;
+        writeln!(f, "addresses asked: {}", self.asked)?;
+        writeln!(f, "outside addresses asked: {}", self.outside)?;
+        writeln!(f, "values and texts read: {}", self.read)?;
+        writeln!(f, "changes tried: {}", self.changes)?;
+        writeln!(f, "changes accepted: {}", self.kept)?;
+        writeln!(f, "slots compared: {}", self.compared)?;
+        writeln!(f, "checksum: {}", self.checksum)?;
+        writeln!(f, "faults: {}", self.faults)
     }
 }

@@ -6,17 +6,16 @@ use mathlib.Core.List.{List}
 use lib.ListN.{length, get_or}
 use borrow.Author.Tests.{le-leb, lt-leb, lt-ltb, le-ltb}
 use Rattle.format.specs.Outcome.{Outcome, Parsed, fault, done, ◌>>=◌, ◌>>◌, guard}
-use Rattle.format.specs.Limits.{limit, id_limit}
-use Rattle.format.specs.Refusals.{ends_too_early, wrong_content, no_row_left}
-use Rattle.format.specs.Marks.{is_integer, width, 'S', 'E'}
+use Rattle.format.specs.Limits.{limit}
+use Rattle.format.specs.Refusals.{ends_too_early, wrong_content}
+use Rattle.format.specs.Marks.{is_integer, width, 'S'}
 use Rattle.format.specs.Tokens as Tokens
 use Rattle.format.specs.Tokens.{Kind, Forest, alone, uncounted}
 use Rattle.format.specs.Bytes.{bytes, reach, byte, one_of}
 use Rattle.format.specs.Content.{is_content, content, payload_end}
-use Rattle.format.specs.Integers.{number, integer_to, integer}
+use Rattle.format.specs.Integers.{number, integer}
 use Rattle.format.specs.Sequences.{row_left}
 use Rattle.format.specs.Scalars.{scalar, unmarked, text, key}
-use Rattle.format.specs.Extensions.{may_have, extension_token, extension}
 
 -- ---- a payload
 
@@ -64,29 +63,3 @@ module _ (m : List ℕ) (lent at row : ℕ) where
           → key m lent at row ≡ after Tokens.key 'S' at start n (payload_end m 'S' start n)
       unfolding key one_of byte row_left guard ◌>>◌ ◌>>=◌ after
       key_there n start h e = rw (lt-ltb _ _ there, marked, lt-ltb _ _ h, e)
-
-  pub extension_no_row : lent ≤ row → extension m lent at row ≡ fault no_row_left at
-  unfolding extension row_left guard ◌>>◌
-  extension_no_row h = rw (le-ltb _ _ h)
-
-  -- an extension's id is refused, or read
-  module _ (left : row < lent) where
-    pub extension_id : (x y : ℕ) → integer_to m id_limit (at + 1) ≡ fault x y → extension m lent at row ≡ fault x y
-    unfolding extension row_left guard ◌>>◌ ◌>>=◌
-    extension_id x y e = rw (lt-ltb _ _ left, e)
-
-    -- its length is refused, or read
-    module _ (id from : ℕ) (read : integer_to m id_limit (at + 1) ≡ done (id, from)) where
-      pub extension_length : (x y : ℕ) → integer m from ≡ fault x y → extension m lent at row ≡ fault x y
-      unfolding extension row_left guard ◌>>◌ ◌>>=◌
-      extension_length x y e = rw (lt-ltb _ _ left, read, e)
-
-      -- it isn't the size that the id asks for, or it is
-      module _ (n start : ℕ) (sized : integer m from ≡ done (n, start)) where
-        pub extension_other : may_have id n ≡ false → extension m lent at row ≡ fault wrong_content at
-        unfolding extension row_left guard ◌>>◌ ◌>>=◌
-        extension_other e = rw (lt-ltb _ _ left, read, sized, e)
-
-        pub extension_there : may_have id n ≡ true → extension m lent at row ≡ (payload_end m 'E' start n >>= λ next. done (alone (extension_token id at start n), next))
-        unfolding extension row_left guard ◌>>◌ ◌>>=◌
-        extension_there e = rw (lt-ltb _ _ left, read, sized, e)

@@ -1,12 +1,15 @@
 -- A row on the way: an equation for each way through `along`, and what its answer tells. Assumes nothing.
 use Prim.Native.Nat.{ℕ, ◌+◌, ◌≤◌, ◌<◌}
-use mathlib.Core.Path.{◌≡◌, refl, sym, subst, ◌∙◌}
+use mathlib.Core.Path.{◌≡◌, refl, sym, ap, subst, ◌∙◌}
 use mathlib.Core.Bool.{Bool, true, false, ◌&&◌}
 use mathlib.Core.List.{List}
 use native.Mathlib.Omega.{arith}
 use native.Mathlib.Decide.{dec_lt}
 use lib.Dec.{leb, ltb}
 use borrow.Author.Tests.{lt-ltb, le-ltb, le-leb, lt-leb, ltb-true, leb-true, eq-eqb, ne_eqb}
+use Rattle.std.specs.Prelude.{Result, Ok}
+use Rattle.format.specs.Answers.{found}
+use Rattle.format.specs.declared.refusals.Refusal.{Refusal}
 use Rattle.format.specs.Outcome.{Outcome, fault, done, guard, ◌>>◌}
 use Rattle.format.specs.Refusals.{rows_dont_fit}
 use Rattle.format.specs.Rows.{Row, row_at, rows_in}
@@ -75,6 +78,10 @@ module _ (ws : List ℕ) (fits : Row → Bool) (stop row : ℕ) where
       go : (o : Outcome ℕ) → Walked o → o ≡ done next → Followed next
       go o (follows {next = n} f) e = let q : n ≡ next = cc in subst Followed q f
       go o stuck e = let z : ◌≡◌ {A = ℕ} 0 1 = cc in absurd (omega arith)
+
+  -- the same, by what the code answered
+  pub went : {r : Result ℕ Refusal} → found r ≡ along ws fits stop row → (next : ℕ) → r ≡ Ok next → Followed next
+  went e next q = followed next (sym e ∙ ap found q)
 
 -- a row that names another parent, or this one; past the rows, whatever was read
 module _ (ws : List ℕ) (container : ℕ) (fits : Row → Bool) (stop row : ℕ) (inside : stop ≤ rows_in ws) (r : Row) (read : row < rows_in ws → r ≡ row_at ws row) where

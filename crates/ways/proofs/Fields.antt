@@ -193,7 +193,3 @@ TopIn many top = IfSome top (λ t. t < many)
 pub top_inside : (top : Option ℕ) (here many : ℕ) → TopIn many top → here < many → TopIn many (option_or top (Some here))
 top_inside None here many h k = k
 top_inside (Some t) here many h k = h
-
-pub top_below : (top : Option ℕ) (here many : ℕ) → TopIn many top → here < many → unwrap_or top here < many
-top_below None here many h k = k
-top_below (Some t) here many h k = h

@@ -24,6 +24,7 @@ fn rows_from(
 {
     let mut row = from;
     let mut many = 0;
+    // The rows are followed by their links, so that no iterator counts them.
     while row < stop {
         let next = along_child(rows, container, Need::Dimension, stop, row)?;
         if many == DIMENSION_LIMIT {

@@ -1,33 +1,140 @@
-// A block of output. Each function puts something at a place of the block and answers the place after it; a full block is written out.
-ghost use Rattle.std.specs.Prelude.{◌≤◌};
-
-use numbers::least;
-use std::io;
+// A block of output: what is put into it stands in lent room until the room is full; then it is written out, and the block goes on empty.
+//
+//     write!(out, "row {row}: {}", kind(n));   formatted text; it answers nothing
+//     out.text(b"..");                         bytes as they are
+//     out.byte(b);
+//     out.repeated(b, times);
+//     out.spaces(times);
+//     out.line();                              the end of a line
+//     out.right(n, width);                     a number at the end of a column
+//     out.flush();                             writes out what stands in the block
+//     out.complain();                          the same, to standard error
+//     out.fail(why);                           says on standard error that what the block names failed, and why
+//     out.direct(bytes);                       writes bytes to standard output, past the block
+//
+// After `flush`, `complain` and `fail` the block is empty. `names` has the words for kinds, marks, ids and refusals, and the ending of a plural.
+use std::fmt::Display;
 use std::io::{Stderr, Stdout, Write};
+use std::{fmt, io};
 
-// The room for a block's bytes, the streams that it is written to, and whether a write failed so far.
+// The room for a block's bytes, how many of them stand in it, the streams that it is written to, and whether a write failed so far.
 #[derive(Drop)]
 pub struct Block<'a> {
     room: &'a mut [u8],
+    filled: usize,
     output: Stdout,
     errors: Stderr,
     failed: bool,
 }
 
-// An empty block.
-pub fn empty<'a>(room: &'a mut [u8], rt: &HostRuntime) -> Block<'a> {
-    Block {
-        room: room,
-        output: rt.stdout(),
-        errors: rt.stderr(),
-        failed: false,
+impl<'a> Block<'a> {
+    // An empty block.
+    pub fn new(room: &'a mut [u8], rt: &HostRuntime) -> Self {
+        Block {
+            room,
+            filled: 0,
+            output: rt.stdout(),
+            errors: rt.stderr(),
+            failed: false,
+        }
+    }
+
+    // What stands in the block.
+    fn shown(&self) -> &[u8] {
+        &self.room[..self.filled.min(self.room.len())]
+    }
+
+    // Says, the first time, that a write failed.
+    fn note(&mut self, write: io::Result<()>) {
+        if let Err(why) = write {
+            if !self.failed {
+                say(self.errors, b"standard output", why);
+            }
+            self.failed = true;
+        }
+    }
+
+    // Writes bytes to standard output as they are.
+    pub fn direct(&mut self, bytes: &[u8]) {
+        let write = self.output.write_all(bytes);
+        self.note(write);
+    }
+
+    // Writes out what stands in the block.
+    pub fn flush(&mut self) {
+        let write = self.output.write_all(self.shown());
+        self.filled = 0;
+        self.note(write);
+    }
+
+    // Writes what stands in the block to standard error.
+    pub fn complain(&mut self) {
+        let _ = self.errors.write_all(self.shown());
+        self.filled = 0;
+    }
+
+    // Says that what the block names failed, and why.
+    pub fn fail(&mut self, why: io::Error) {
+        say(self.errors, self.shown(), why);
+        self.filled = 0;
+    }
+
+    // A byte.
+    pub fn byte(&mut self, b: u8) {
+        if self.room.len() <= self.filled {
+            self.flush();
+        }
+        if self.filled < self.room.len() {
+            self.room[self.filled] = b;
+            self.filled += 1;
+        }
+    }
+
+    // Bytes as they are.
+    pub fn text(&mut self, bytes: &[u8]) {
+        for &b in bytes {
+            self.byte(b);
+        }
+    }
+
+    // The same byte, so many times.
+    pub fn repeated(&mut self, b: u8, times: usize) {
+        for _ in 0..times {
+            self.byte(b);
+        }
+    }
+
+    // So many spaces.
+    pub fn spaces(&mut self, times: usize) {
+        self.repeated(b' ', times);
+    }
+
+    // The end of a line.
+    pub fn line(&mut self) {
+        self.byte(b'\n');
+    }
+
+    // A number with spaces before it, up to a width; one space before a number that fills it.
+    pub fn right(&mut self, n: usize, width: usize) {
+        let rest = width.saturating_sub(1);
+        write!(self, " {n:>rest$}");
+    }
+
+    // What `write!` puts.
+    pub fn write_fmt<D: Display + Drop>(&mut self, value: D) {
+        let _ = fmt::Write::write(self, value);
     }
 }
 
-// Puts the text of an error at the start of its room; answers its length, without the system's number for it, which stands after it.
-fn reason(why: io::Error, room: &mut [u8; 96]) -> usize
-    ensures { result ≤ 96 }
-{
+impl<'a> fmt::Write for Block<'a> {
+    fn write_str(&mut self, s: &str) -> fmt::Result {
+        self.text(s.as_bytes());
+        Ok(())
+    }
+}
+
+// The text of an error, put into its room, without the system's number for it, which stands after it.
+fn reason(why: io::Error, room: &mut [u8; 96]) -> &[u8] {
     let mut rest: &mut [u8] = room;
     let _ = write!(rest, "{why}");
     let n = 96usize.saturating_sub(rest.len());
@@ -35,115 +142,15 @@ fn reason(why: io::Error, room: &mut [u8; 96]) -> usize
         .windows(2)
         .position(|pair| pair == b" (".as_slice())
     {
-        Some(end) => end,
-        None => n,
+        Some(end) => &room[..end],
+        None => &room[..n],
     }
 }
 
 // Says what failed and why: a line on standard error.
 fn say(errors: Stderr, what: &[u8], why: io::Error) {
-    let mut text = [0u8; 96];
-    let n = reason(why, &mut text);
     let _ = errors.write_all(what);
     let _ = errors.write_all(b": ");
-    let _ = errors.write_all(&text[..n]);
+    let _ = errors.write_all(reason(why, &mut [0; 96]));
     let _ = errors.write_all(b"\n");
-}
-
-// Says, the first time, that a write failed.
-fn failed(out: &mut Block, why: io::Error) {
-    if out.failed {
-        return;
-    }
-    say(out.errors, b"standard output", why);
-    out.failed = true;
-}
-
-// Writes bytes to standard output as they are.
-pub fn direct(out: &mut Block, bytes: &[u8]) {
-    match out.output.write_all(bytes) {
-        Ok(()) => {}
-        Err(why) => {
-            failed(out, why);
-        }
-    }
-}
-
-// Writes out what stands before a place; answers why, where that fails.
-fn written(out: &Block, at: usize) -> io::Result<()> {
-    let n = least(at, out.room.len());
-    out.output.write_all(&out.room[..n])
-}
-
-// Writes out what stands before a place.
-pub fn flush(out: &mut Block, at: usize) {
-    match written(out, at) {
-        Ok(()) => {}
-        Err(why) => {
-            failed(out, why);
-        }
-    }
-}
-
-// Writes what stands before a place to standard error.
-pub fn complain(out: &Block, at: usize) {
-    let n = least(at, out.room.len());
-    let _ = out.errors.write_all(&out.room[..n]);
-}
-
-// Says that what is named before a place failed, and why.
-pub fn fail(out: &Block, at: usize, why: io::Error) {
-    let n = least(at, out.room.len());
-    say(out.errors, &out.room[..n], why);
-}
-
-// The place at which the next byte goes, where a full block is written out.
-fn room(out: &mut Block, at: usize) -> usize {
-    if at < out.room.len() {
-        return at;
-    }
-    flush(out, at);
-    0
-}
-
-// A byte.
-pub fn byte(out: &mut Block, at: usize, b: u8) -> usize {
-    let place = room(out, at);
-    if place < out.room.len() {
-        out.room[place] = b;
-        return place + 1;
-    }
-    0
-}
-
-// Bytes as they are.
-pub fn text(out: &mut Block, at: usize, s: &[u8]) -> usize {
-    let mut place = at;
-    let mut i: usize = 0;
-    while i < s.len() {
-        place = byte(out, place, s[i]);
-        i += 1;
-    }
-    place
-}
-
-// The same byte, so many times.
-pub fn repeated(out: &mut Block, at: usize, b: u8, times: usize) -> usize {
-    let mut place = at;
-    let mut i: usize = 0;
-    while i < times {
-        place = byte(out, place, b);
-        i += 1;
-    }
-    place
-}
-
-// So many spaces.
-pub fn spaces(out: &mut Block, at: usize, times: usize) -> usize {
-    repeated(out, at, b' ', times)
-}
-
-// The end of a line.
-pub fn line(out: &mut Block, at: usize) -> usize {
-    byte(out, at, b'\n')
 }

@@ -2,7 +2,4 @@
 #![tactic(auto)]
 
 pub mod block;
-pub mod digits;
 pub mod names;
-pub mod phrases;
-pub mod tables;

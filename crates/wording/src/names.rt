@@ -1,110 +1,94 @@
-// The names of kinds, marks and extensions' ids, and the meanings of refusals.
-use crate::block::Block;
-use crate::tables::{line, place};
-
-// A number up to the largest that has a name; 0 for a larger one.
-fn upto(n: usize, largest: usize) -> usize {
-    if largest < n {
-        return 0;
-    }
-    n
-}
+// The names of kinds, marks and extensions' ids, the meanings of refusals, and the ending of a plural.
+// Kinds, marks, ids and refusals come as the numbers by which rows and answers hold them for C.
+ghost use Rattle.std.specs.Prelude.{◌≡◌, ◌≤◌, ◌↔◌, IsSome, length};
 
 // A kind by its number.
-pub fn kind(out: &mut Block, at: usize, kind: usize) -> usize {
-    line(
-        out,
-        at,
-        b"no kind
-scalar
-text
-number
-key
-array
-object
-packed
-table
-leaf
-record
-fixed array
-dimension
-extension",
-        upto(kind, 13),
-    )
-}
-
-// The line of a mark: its place among all.
-fn mark_line(mark: usize) -> usize {
-    place(b"ZTFhdDCBSHiUIulmLM", (mark % 256) as u8)
+pub fn kind(number: usize) -> &'static str {
+    match number {
+        1 => "scalar",
+        2 => "text",
+        3 => "number",
+        4 => "key",
+        5 => "array",
+        6 => "object",
+        7 => "packed",
+        8 => "table",
+        9 => "leaf",
+        10 => "record",
+        11 => "fixed array",
+        12 => "dimension",
+        13 => "extension",
+        _ => "no kind",
+    }
 }
 
 // A mark by its byte, with its type.
-pub fn mark(out: &mut Block, at: usize, mark: usize) -> usize {
-    line(
-        out,
-        at,
-        b"no mark
-Z null
-T boolean
-F boolean
-h half
-d single
-D double
-C char
-B byte
-S text
-H number
-i int8
-U uint8
-I int16
-u uint16
-l int32
-m uint32
-L int64
-M uint64",
-        mark_line(mark),
-    )
+pub fn mark(mark: usize) -> &'static str {
+    match (mark % 256) as u8 {
+        b'Z' => "Z null",
+        b'T' => "T boolean",
+        b'F' => "F boolean",
+        b'h' => "h half",
+        b'd' => "d single",
+        b'D' => "D double",
+        b'C' => "C char",
+        b'B' => "B byte",
+        b'S' => "S text",
+        b'H' => "H number",
+        b'i' => "i int8",
+        b'U' => "U uint8",
+        b'I' => "I int16",
+        b'u' => "u uint16",
+        b'l' => "l int32",
+        b'm' => "m uint32",
+        b'L' => "L int64",
+        b'M' => "M uint64",
+        _ => "no mark",
+    }
 }
 
-// The name of an extension's id, after a space; nothing where the id is opaque.
-pub fn id(out: &mut Block, at: usize, id: usize) -> usize {
-    line(
-        out,
-        at,
-        b"
- epoch_s
- epoch_us
- epoch_ns
- date
- time_s
- datetime_us
- timedelta_us
- complex64
- complex128
- uuid",
-        upto(id, 10),
-    )
+// The name of an extension's id, if it has one: the bytes of any other are opaque.
+pub fn id(id: usize) -> Option<&'static str>
+    ensures { IsSome result ↔ (1 ≤ id × id ≤ 10) }
+{
+    match id {
+        1 => Some("epoch_s"),
+        2 => Some("epoch_us"),
+        3 => Some("epoch_ns"),
+        4 => Some("date"),
+        5 => Some("time_s"),
+        6 => Some("datetime_us"),
+        7 => Some("timedelta_us"),
+        8 => Some("complex64"),
+        9 => Some("complex128"),
+        10 => Some("uuid"),
+        _ => None,
+    }
 }
 
 // What a refusal's number means.
-pub fn refusal(out: &mut Block, at: usize, number: usize) -> usize {
-    line(
-        out,
-        at,
-        b"no such number
-message over the limit of 1,048,576 bytes
-message ends too early
-byte not allowed here
-content wrong (text, number, char, boolean or size of an extension)
-over a limit
-negative, or 0 or over 8 dimensions
-too deep
-no row left
-bytes after the value
-address or name not there
-output longer than its room or than 1,048,576
-rows don't fit the request
-schema form not built",
-        upto(number, 13),
-    )
+pub fn refusal(number: usize) -> &'static str {
+    match number {
+        1 => "message over the limit of 1,048,576 bytes",
+        2 => "message ends too early",
+        3 => "byte not allowed here",
+        4 => "content wrong (text, number, char, boolean or size of an extension)",
+        5 => "over a limit",
+        6 => "negative, or 0 or over 8 dimensions",
+        7 => "too deep",
+        8 => "no row left",
+        9 => "bytes after the value",
+        10 => "address or name not there",
+        11 => "output longer than its room or than 1,048,576",
+        12 => "rows don't fit the request",
+        13 => "schema form not built",
+        _ => "no such number",
+    }
+}
+
+// What a word ends with where it stands after a number.
+pub fn plural(n: usize) -> &'static str
+    ensures { (length result.now ≡ 0) ↔ (n ≡ 1) }
+{
+    if n == 1 { "" } else { "s" }
 }

@@ -1,7 +1,7 @@
 -- `find`: what the definition gives from the key reached on is what it gives from the first. Assumes nothing.
 use mathlib.Core.Path.{sym, ◌∙◌}
 use native.Mathlib.Omega.{arith}
-use Rattle.std.proofs.lemmas.Result.{err_from_is_err_and}
+use Rattle.ways.proofs.Exits.{passed_on}
 use Rattle.format.proofs.Parts.{inside}
 use Rattle.lookup.proofs.Walk.{member_is, compared, started, ended, stuck, hit, barred, higher, onward}
 use Rattle.lookup.proofs.find.Goals as goal
@@ -11,8 +11,7 @@ loop-key-init c = started _ _ _ _ _ c.requires
 
 pub returns-in_err-value : goal.returns-in_err-value
 returns-in_err-value c =
-    let p = err_from_is_err_and c.from_residual.result c.from_residual.ensures.1 in
-    rw (p.1, p.2) (stuck _ _ _ _ _ _ c.loop-key.invariant c.loop-key-test.true _ (rw c.in_err-value.was at c.member.ensures))
+    rw (passed_on _ _ c.from_residual.ensures.1) (stuck _ _ _ _ _ _ c.loop-key.invariant c.loop-key-test.true _ (rw c.in_err-value.was at c.member.ensures))
 
 pub slice_bounds-bytes-end : goal.slice_bounds-bytes-end
 slice_bounds-bytes-end c =
@@ -28,10 +27,9 @@ returns-then-eq c =
 
 pub returns-in_err-key : goal.returns-in_err-key
 returns-in_err-key c =
-    let p = err_from_is_err_and c.from_residual-in_err-key.result c.from_residual-in_err-key.ensures.1 in
     let read = c.load-k.ensures.there (omega (arith, c.loop-key-test.true, c.requires)) in
     let named = compared _ _ _ _ _ read _ c.eq.ensures in
-    rw (p.1, p.2) (barred _ _ _ _ _ _ c.loop-key.invariant c.loop-key-test.true _ (rw c.in_ok-value.was at c.member.ensures) (sym named ∙ c.if-eq.false) _ (rw c.in_err-key.was at c.along.ensures))
+    rw (passed_on _ _ c.from_residual-in_err-key.ensures.1) (barred _ _ _ _ _ _ c.loop-key.invariant c.loop-key-test.true _ (rw c.in_ok-value.was at c.member.ensures) (sym named ∙ c.if-eq.false) _ (rw c.in_err-key.was at c.along.ensures))
 
 pub loop-key-smaller : goal.loop-key-smaller
 loop-key-smaller c =

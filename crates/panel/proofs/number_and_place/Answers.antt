@@ -6,12 +6,13 @@ use Rattle.panel.proofs.number_and_place.Goals as goal
 
 pub packed-requires : goal.packed-requires
 packed-requires c =
-    let h = refused_fits _ _ _ (rw c.in-Refused.is at c.rows_needed.ensures) in (omega arith, omega arith, omega arith)
+    let e = c.number.ensures in
+    let h = refused_fits _ _ _ c.in-Err.ensures in (omega arith, omega arith, omega arith)
 
-pub returns-in-Refused : goal.returns-in-Refused
-returns-in-Refused c =
-    c.packed.ensures ∙ refused_place _ _ _ (rw c.in-Refused.is at c.rows_needed.ensures)
+pub returns-in-Err : goal.returns-in-Err
+returns-in-Err c =
+    c.packed.ensures ∙ rw c.number.ensures (refused_place _ _ _ c.in-Err.ensures)
 
-pub returns-in-Done : goal.returns-in-Done
-returns-in-Done c =
-    c.packed-in-Done.ensures ∙ done_place _ _ (rw c.in-Done.is at c.rows_needed.ensures)
+pub returns-in-Ok : goal.returns-in-Ok
+returns-in-Ok c =
+    c.packed-in-Ok.ensures ∙ done_place _ _ c.in-Ok.ensures

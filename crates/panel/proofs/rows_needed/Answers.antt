@@ -6,16 +6,17 @@ use Rattle.panel.proofs.rows_needed.Goals as goal
 
 pub packed-requires : goal.packed-requires
 packed-requires c =
-    let h = refused_fits _ _ _ (rw c.in-Refused.is at c.rows_needed.ensures) in (omega arith, omega arith, omega arith)
+    let e = c.number.ensures in
+    let h = refused_fits _ _ _ c.in-Err.ensures in (omega arith, omega arith, omega arith)
 
-pub packed-requires-in-Done : goal.packed-requires-in-Done
-packed-requires-in-Done c =
-    (omega arith, omega arith, rows_fit _ _ (rw c.in-Done.is at c.rows_needed.ensures))
+pub packed-requires-in-Ok : goal.packed-requires-in-Ok
+packed-requires-in-Ok c =
+    (omega arith, omega arith, rows_fit _ _ c.in-Ok.ensures)
 
-pub returns-in-Refused : goal.returns-in-Refused
-returns-in-Refused c =
-    c.packed.ensures ∙ refused_rows _ _ _ (rw c.in-Refused.is at c.rows_needed.ensures)
+pub returns-in-Err : goal.returns-in-Err
+returns-in-Err c =
+    c.packed.ensures ∙ rw c.number.ensures (refused_rows _ _ _ c.in-Err.ensures)
 
-pub returns-in-Done : goal.returns-in-Done
-returns-in-Done c =
-    c.packed-in-Done.ensures ∙ done_rows _ _ (rw c.in-Done.is at c.rows_needed.ensures)
+pub returns-in-Ok : goal.returns-in-Ok
+returns-in-Ok c =
+    c.packed-in-Ok.ensures ∙ done_rows _ _ c.in-Ok.ensures

@@ -1,13 +1,12 @@
 -- `positioned`: the extents, the range, and the number. Assumes nothing.
 use mathlib.Core.Path.{sym, ◌∙◌}
-use Rattle.std.proofs.lemmas.Result.{err_from_is_err_and}
+use Rattle.ways.proofs.Exits.{passed_on}
 use Rattle.addresses.proofs.SlotCases.{position_refused, position_out}
 use Rattle.addresses.proofs.slots.positioned.Goals as goal
 
 pub returns-in_err-many : goal.returns-in_err-many
 returns-in_err-many c =
-    let p = err_from_is_err_and c.from_residual.result c.from_residual.ensures.1 in
-    rw (p.1, p.2) (position_refused _ _ _ _ _ (rw c.in_err-many.was at c.extents.ensures))
+    rw (passed_on _ _ c.from_residual.ensures.1) (position_refused _ _ _ _ _ (rw c.in_err-many.was at c.extents.ensures))
 
 pub returns-then-not-in_range : goal.returns-then-not-in_range
 returns-then-not-in_range c =

@@ -43,11 +43,11 @@ invariant-counted-loop-count l = Going l.message l.lent l.start l.at l.row l.cou
 abbrev pub decreases-counted-loop-count : goal.decreases-counted-loop-count
 decreases-counted-loop-count l = l.n - l.count
 
-abbrev pub invariant-plain-loop-edition : goal.invariant-plain-loop-edition
-invariant-plain-loop-edition l = Going l.message l.lent l.start l.at l.row l.count
+abbrev pub invariant-plain-loop-at : goal.invariant-plain-loop-at
+invariant-plain-loop-at l = Going l.message l.lent l.start l.at l.row l.count
     × (length l.rows ≡ length l.initial.rows)
     × (l.start + l.count ≤ l.at)
     × ((fuel₀ : ℕ) → length l.message ≤ l.start + fuel₀ → Until l.message (skip l.message) (closes (opening_of l.brace)) (member_of l.message l.lent (grammar_of l.edition) l.levels (opening_of l.brace)) l.start l.first (ancestry_of l.ancestry) l.initial.rows fuel₀ l.at l.row l.count l.rows)
 
-abbrev pub decreases-plain-loop-edition : goal.decreases-plain-loop-edition
-decreases-plain-loop-edition l = length l.message - l.at
+abbrev pub decreases-plain-loop-at : goal.decreases-plain-loop-at
+decreases-plain-loop-at l = length l.message - l.at

@@ -33,11 +33,11 @@ pub returns-then-end-at-clause-is : goal.returns-then-end-at-clause-is
 returns-then-end-at-clause-is c =
     (λ lent row start n _ l e _. let h = shape_few _ lent _ row start n l e in absurd (omega arith))
 
-pub returns-in-Refused-clause-is : goal.returns-in-Refused-clause-is
-returns-in-Refused-clause-is c =
-    (λ lent row start n _ l e _. let t = rw c.in-Refused.is at c.shape.ensures.meets in absurd (unread _ _ lent row start n l e t))
+pub returns-in_default-clause-is : goal.returns-in_default-clause-is
+returns-in_default-clause-is c =
+    (λ lent row start n _ l e _. absurd (unread _ _ lent row start n l e c.in_default.ensures.meets))
 
-pub returns-in-Shape-clause-is : goal.returns-in-Shape-clause-is
-returns-in-Shape-clause-is c =
-    let t = rw c.in-Shape.is at c.shape.ensures.meets in
-    let w = rw c.in-Shape.is at c.shape.ensures.bounds in (λ lent row start n _ l e h. told_over _ _ lent row start n l e t h)
+pub returns-clause-is : goal.returns-clause-is
+returns-clause-is c =
+    let t = c.in-Ok.ensures.meets in
+    let w = c.in-Ok.ensures.bounds in (λ lent row start n _ l e h. told_over _ _ lent row start n l e t h)

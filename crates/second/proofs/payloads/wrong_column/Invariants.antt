@@ -1,5 +1,5 @@
 -- `payloads::wrong_column`: a loop over fields, each of a row at least. Assumes nothing.
-use Prim.Native.Nat.{◌-◌}
+use Rattle.std.proofs.Common.{◌-◌}
 use Rattle.second.proofs.payloads.wrong_column.Given as goal
 
 abbrev pub decreases-loop-key : goal.decreases-loop-key

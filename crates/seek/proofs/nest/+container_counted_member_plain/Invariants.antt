@@ -23,13 +23,10 @@ abbrev pub decreases-plain : goal.decreases-plain
 decreases-plain l = 3 * l.levels + 2
 
 abbrev pub invariant-counted-loop-count : goal.invariant-counted-loop-count
-invariant-counted-loop-count l = Going l.message (length l.message) l.start l.at l.row 0 × Some l.message l.n (spaced l.message (member_of l.message (length l.message) new l.levels (opening_of l.brace))) l.start l.first l.number l.at l.row l.left l.count
+invariant-counted-loop-count l = Going l.message (length l.message) l.start l.past.at l.past.row 0 × Some l.message l.n (spaced l.message (member_of l.message (length l.message) new l.levels (opening_of l.brace))) l.start l.first l.number l.past.at l.past.row l.past.left l.count
 
-abbrev pub decreases-counted-loop-count : goal.decreases-counted-loop-count
-decreases-counted-loop-count l = l.n - l.count
+abbrev pub invariant-plain-loop-past : goal.invariant-plain-loop-past
+invariant-plain-loop-past l = Going l.message (length l.message) l.start l.past.at l.past.row 0 × Until l.message (skip l.message) (closes (opening_of l.brace)) (member_of l.message (length l.message) new l.levels (opening_of l.brace)) l.start l.first l.number l.past.at l.past.row l.past.left
 
-abbrev pub invariant-plain-loop-levels : goal.invariant-plain-loop-levels
-invariant-plain-loop-levels l = Going l.message (length l.message) l.start l.at l.row 0 × Until l.message (skip l.message) (closes (opening_of l.brace)) (member_of l.message (length l.message) new l.levels (opening_of l.brace)) l.start l.first l.number l.at l.row l.left
-
-abbrev pub decreases-plain-loop-levels : goal.decreases-plain-loop-levels
-decreases-plain-loop-levels l = length l.message - l.at
+abbrev pub decreases-plain-loop-past : goal.decreases-plain-loop-past
+decreases-plain-loop-past l = length l.message - l.past.at

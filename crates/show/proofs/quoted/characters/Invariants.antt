@@ -1,6 +1,6 @@
--- `quoted::characters`: a loop over characters. Assumes nothing.
-use Rattle.std.proofs.Common.{◌-◌}
+-- `quoted::characters`: a loop over what is left of the bytes. Assumes nothing.
+use lib.ListN.{length}
 use Rattle.show.proofs.quoted.characters.Given as goal
 
-abbrev pub decreases-loop-i : goal.decreases-loop-i
-decreases-loop-i l = l.end - l.i
+abbrev pub decreases-loop-left : goal.decreases-loop-left
+decreases-loop-left l = length l.left

@@ -3,10 +3,10 @@ use mathlib.Core.Path.{sym, ap, ◌∙◌}
 use native.Mathlib.Omega.{arith}
 use lib.ListN.{length-set}
 use lib.Seq.{length-take-le}
-use Rattle.std.proofs.lemmas.Result.{err_from_is_err_and}
+use Rattle.ways.proofs.Exits.{passed_on}
 use Rattle.format.specs.Answers.{found}
 use Rattle.format.specs.Rows.{rows_in}
-use Rattle.ways.proofs.Along.{followed}
+use Rattle.ways.proofs.Along.{went}
 use Rattle.ways.proofs.Extents.{sofar_start, sofar_store, sofar_refused, sofar_ninth, sofar_end, sofar_none}
 use Rattle.ways.proofs.dimensions.rows_from.Goals as goal
 
@@ -18,9 +18,8 @@ loop-row-init c =
 pub returns-in_err-next : goal.returns-in_err-next
 unfolding rows_in
 returns-in_err-next c =
-    let p = err_from_is_err_and c.from_residual.result c.from_residual.ensures.1 in
     let e = sym c.along_child.ensures ∙ ap found c.in_err-next.was in
-    rw (p.1, p.2) (sofar_refused _ _ _ _ _ _ _ c.loop-row.invariant.0 c.loop-row-test.true e)
+    rw (passed_on _ _ c.from_residual.ensures.1) (sofar_refused _ _ _ _ _ _ _ c.loop-row.invariant.0 c.loop-row-test.true e)
 
 pub returns-then-many-eq-DIMENSION_LIMIT : goal.returns-then-many-eq-DIMENSION_LIMIT
 unfolding rows_in
@@ -30,7 +29,7 @@ returns-then-many-eq-DIMENSION_LIMIT c =
 pub loop-row-smaller : goal.loop-row-smaller
 unfolding rows_in
 loop-row-smaller c =
-    let e = sym c.along_child.ensures ∙ ap found c.in_ok-next.was in let f = followed _ _ _ _ _ e in omega (arith, f.up, f.before)
+    let f = went _ _ _ _ c.along_child.ensures _ c.in_ok-next.was in omega (arith, f.up, f.before)
 
 pub loop-row-preserved : goal.loop-row-preserved
 unfolding rows_in

@@ -1,9 +1,9 @@
 -- `field`: one member after another. Assumes nothing.
 use mathlib.Core.Path.{sym}
 use native.Mathlib.Omega.{arith}
-use Rattle.std.proofs.lemmas.Result.{err_from_is_err_and}
+use Rattle.ways.proofs.Exits.{passed_on}
 use Rattle.format.specs.Rows.{rows_in}
-use Rattle.ways.proofs.Fields.{going_start, going_refused, going_leaf, going_inside, going_next, top_inside, top_below}
+use Rattle.ways.proofs.Fields.{going_start, going_refused, going_leaf, going_inside, going_next, top_inside}
 use Rattle.ways.proofs.members.field.Goals as goal
 
 pub loop-here-init : goal.loop-here-init
@@ -12,18 +12,12 @@ loop-here-init c =
 
 pub returns-in_err-here-clause-is : goal.returns-in_err-here-clause-is
 returns-in_err-here-clause-is c =
-    let p = err_from_is_err_and c.from_residual.result c.from_residual.ensures.1 in
-    rw (p.1, p.2) (sym (going_refused _ _ _ _ _ _ _ c.loop-here.invariant.0 _ (rw c.in_err-here.was at c.advance.ensures)))
+    rw (passed_on _ _ c.from_residual.ensures.1) (sym (going_refused _ _ _ _ _ _ _ c.loop-here.invariant.0 _ (rw c.in_err-here.was at c.advance.ensures)))
 
 pub returns-in-Leaf-clause-is : goal.returns-in-Leaf-clause-is
 returns-in-Leaf-clause-is c =
     let s = rw (c.in_ok-here.was, c.in-Leaf.is) at c.advance.ensures in
     rw c.unwrap_or.ensures (sym (going_leaf _ _ _ _ _ _ _ c.loop-here.invariant.0 _ s))
-
-pub returns-in-Leaf-clause-bounds : goal.returns-in-Leaf-clause-bounds
-returns-in-Leaf-clause-bounds c =
-    let s = rw (c.in_ok-here.was, c.in-Leaf.is) at c.advance.ensures in
-    (s.2, rw c.unwrap_or.ensures (top_below _ _ _ c.loop-here.invariant.3 (omega (arith, s.1, s.2))))
 
 pub overflow_add-row : goal.overflow_add-row
 unfolding rows_in

@@ -1,6 +1,0 @@
--- `answers::same_words`: a loop over words. Assumes nothing.
-use Rattle.std.proofs.Common.{◌-◌, length}
-use Rattle.compare.proofs.answers.same_words.Given as goal
-
-abbrev pub decreases-loop-i : goal.decreases-loop-i
-decreases-loop-i l = length l.a - l.i

@@ -1,6 +1,0 @@
--- `dump::lines`: a loop over lines. Assumes nothing.
-use Rattle.std.proofs.Common.{◌-◌}
-use Rattle.show.proofs.dump.lines.Given as goal
-
-abbrev pub decreases-loop-i : goal.decreases-loop-i
-decreases-loop-i l = l.end - l.i

@@ -1,6 +1,0 @@
--- `dump::rest`: a loop over lines. Assumes nothing.
-use Rattle.std.proofs.Common.{◌-◌}
-use Rattle.show.proofs.dump.rest.Given as goal
-
-abbrev pub decreases-loop-i : goal.decreases-loop-i
-decreases-loop-i l = l.end - l.i

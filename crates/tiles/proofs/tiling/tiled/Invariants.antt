@@ -1,6 +1,0 @@
--- `tiling::tiled`: a loop over the entries. Assumes nothing.
-use Prim.Native.Nat.{◌-◌}
-use Rattle.tiles.proofs.tiling.tiled.Given as goal
-
-abbrev pub decreases-loop-entry : goal.decreases-loop-entry
-decreases-loop-entry l = l.to - l.entry
