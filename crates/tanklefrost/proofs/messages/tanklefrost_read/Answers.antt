@@ -10,7 +10,7 @@ pub returns-in-Some : goal.returns-in-Some
 returns-in-Some c =
     let named = rw c.in-Some.is at c.edition_of.ensures in
     let read = c.read.ensures in
-    rw (read_by _ _ named _ _) (record { answer = c.from.ensures.from_gives ∙ ap reading_for read.answer; words = read.words })
+    rw (read_by _ _ named _ _) (record { answer = c.reading_of.ensures ∙ ap reading_for read.answer; words = read.words })
 
 pub returns-in-None : goal.returns-in-None
 unfolding rows_used words_after number_of place_of or_zero

@@ -10,7 +10,7 @@ pub returns-in-Some : goal.returns-in-Some
 returns-in-Some c =
     let named = rw c.in-Some.is at c.edition_of.ensures in
     let written = c.rewrite.ensures in
-    rw (read_by _ _ named _ _, rewrite_by _ _ named _ _ _) (record { answer = c.from.ensures.from_gives ∙ ap reading_for written.answer; output = written.output; words = written.words })
+    rw (read_by _ _ named _ _, rewrite_by _ _ named _ _ _) (record { answer = c.reading_of.ensures ∙ ap reading_for written.answer; output = written.output; words = written.words })
 
 pub returns-in-None : goal.returns-in-None
 unfolding bytes_written output_after rewrite_words_after number_of place_of or_zero
