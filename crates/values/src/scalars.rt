@@ -16,7 +16,8 @@ use format::refusals::Refusal;
 use scan::bytes::within;
 use scan::integers::little_endian;
 
-// The number n under a signed mark, in two's complement.
+// The number n under a signed mark, in two's complement. By hand, since the width is the mark's: std's `cast_signed` has it from the
+// type, and a match with a cast in each of four arms is no plainer.
 fn signed(mark: Mark, n: u64) -> i64
     requires { (is_signed mark.0 ≡ true) × (n < 256 ^ width mark.0) }
     ensures { result ≡ twos_complement mark.0 n }
@@ -34,10 +35,7 @@ fn signed(mark: Mark, n: u64) -> i64
 fn is_true(mark: u8, bytes: &[u8]) -> bool
     ensures { result ≡ eqb (get_or bytes.now 0 mark) 'T' }
 {
-    if bytes.len() == 0 {
-        return mark == Mark::TRUE;
-    }
-    bytes[0] == Mark::TRUE
+    *bytes.first().unwrap_or(&mark) == Mark::TRUE
 }
 
 // The value of bytes under a mark, no more of them than go with it.

@@ -1,19 +1,18 @@
--- A part of a message that reaches past its end. Assumes nothing.
-use Prim.Native.Nat.{ℕ, ◌-◌, ◌≤◌, ◌<◌}
-use mathlib.Core.Path.{◌≡◌, sym, ◌∙◌}
-use mathlib.Core.List.{List, []}
+-- A part of a message that may reach past its end. Assumes nothing.
+use Prim.Native.Nat.{ℕ, ◌-◌, min}
+use mathlib.Core.Path.{◌≡◌, ap, ◌∙◌}
+use mathlib.Core.List.{List}
 use native.Mathlib.Omega.{arith}
-use lib.ListN.{length, take, drop, length-drop, drop_of_length-le}
+use lib.ListN.{length, take, drop, length-drop}
 use lib.Seq.{take_all}
+use Rattle.std.proofs.lemmas.List.{take_min, drop_min}
 use Rattle.format.specs.Bytes.{bytes}
 
-module _ (m : List ℕ) (at n : ℕ) where
-  -- all of it is past the end
-  pub part_past : length m ≤ at → take 0 m ≡ bytes m at n
-  unfolding bytes
-  part_past h = rw (drop_of_length-le m h) (sym (take_all n [] (omega arith)))
-
-  -- the end is in it
-  pub part_to_end : at < length m → length m - at < n → take (length m - at) (drop at m) ≡ bytes m at n
-  unfolding bytes
-  part_to_end h k = let e = length-drop at m in take_all (length m - at) (drop at m) (omega arith) ∙ sym (take_all n (drop at m) (omega arith))
+-- the rest of a message from a place on, and so much of it
+pub part_there : (m : List ℕ) (at n a k : ℕ) → a ≡ min at (length m) → k ≡ min n (length (take (length m - a) (drop a m)))
+    → take k (take (length m - a) (drop a m)) ≡ bytes m at n
+unfolding bytes
+part_there m at n a k e f =
+    let rest : take (length m - a) (drop a m) ≡ drop at m =
+    take_all (length m - a) (drop a m) (omega (arith, length-drop a m)) ∙ ap (λ x. drop x m) e ∙ drop_min at m in
+    rw (f, rest) (take_min n (drop at m))

@@ -23,15 +23,8 @@ use scan::bytes::byte_at;
 fn part<'a>(message: &'a [u8], at: usize, n: usize) -> &'a [u8]
     ensures { result.now ≡ bytes message.now at n }
 {
-    let end = message.len();
-    if end <= at {
-        return &message[..0];
-    }
-    if end - at < n {
-        return &message[at..];
-    }
-    let next = at + n;
-    &message[at..next]
+    let rest = &message[at.min(message.len())..];
+    &rest[..n.min(rest.len())]
 }
 
 // A token that is written whole.
@@ -64,11 +57,8 @@ fn put_packed(output: &mut [u8], at: usize, mark: u8, order: u32, count: u32) ->
     requires { at < 2 ^ 58 }
     ensures { Puts output.old output.new at result ('[' ∷ dollar_sign ∷ mark ∷ '#' ∷ shape_start order count) }
 {
-    let a = put(output, at, Mark::ARRAY);
-    let b = put(output, a, Mark::TYPE);
-    let c = put(output, b, mark);
-    let d = put(output, c, Mark::COUNT);
-    put_shape_start(output, d, order, count)
+    let next = put_part(output, at, &[Mark::ARRAY, Mark::TYPE, mark, Mark::COUNT]);
+    put_shape_start(output, next, order, count)
 }
 
 // Before the tokens below it.
