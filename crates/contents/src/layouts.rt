@@ -66,6 +66,7 @@ fn by_columns(message: &[u8], schema: usize, count: usize, start: usize) -> usiz
     let mut i = schema + 1;
     let mut place = start;
     let mut low = NOWHERE;
+    // No `for`: where the next member begins is known only once this one is walked.
     while i < end {
         let from = after_key(message, true, i);
         let walk = field(message, from, count, place, low);

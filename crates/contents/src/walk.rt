@@ -89,6 +89,7 @@ pub fn group(
     let mut i = at + 1;
     let mut here = place;
     let mut low = best;
+    // No `for`: where the next member begins is known only once this one is walked.
     while i < message.len() {
         let from = after_key(message, brace, i);
         let walk = kind(message, levels - 1, from, stride, count, here, low);

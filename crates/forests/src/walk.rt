@@ -81,6 +81,7 @@ pub fn put_tokens(
 {
     let mut row = first;
     let mut to = at;
+    // No `for`: the next row is where this one's link leads.
     while row < stop {
         let r = load(rows, row);
         let link = r.link as usize;

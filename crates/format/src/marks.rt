@@ -29,107 +29,26 @@ const OTHER: Traits = Traits {
 
 // Nothing is carried.
 const EMPTY: Traits = Traits {
-    width: 0,
-    integer: false,
-    signed: false,
-    typed: false,
     scalar: true,
+    ..OTHER
 };
 
-const SIGNED1: Traits = Traits {
-    width: 1,
+// Bytes that are no integer.
+const OPAQUE: Traits = Traits {
+    typed: true,
+    ..EMPTY
+};
+
+// An integer without a sign.
+const UNSIGNED: Traits = Traits {
     integer: true,
+    ..OPAQUE
+};
+
+// An integer with a sign.
+const SIGNED: Traits = Traits {
     signed: true,
-    typed: true,
-    scalar: true,
-};
-
-const SIGNED2: Traits = Traits {
-    width: 2,
-    integer: true,
-    signed: true,
-    typed: true,
-    scalar: true,
-};
-
-const SIGNED4: Traits = Traits {
-    width: 4,
-    integer: true,
-    signed: true,
-    typed: true,
-    scalar: true,
-};
-
-const SIGNED8: Traits = Traits {
-    width: 8,
-    integer: true,
-    signed: true,
-    typed: true,
-    scalar: true,
-};
-
-const UNSIGNED1: Traits = Traits {
-    width: 1,
-    integer: true,
-    signed: false,
-    typed: true,
-    scalar: true,
-};
-
-const UNSIGNED2: Traits = Traits {
-    width: 2,
-    integer: true,
-    signed: false,
-    typed: true,
-    scalar: true,
-};
-
-const UNSIGNED4: Traits = Traits {
-    width: 4,
-    integer: true,
-    signed: false,
-    typed: true,
-    scalar: true,
-};
-
-const UNSIGNED8: Traits = Traits {
-    width: 8,
-    integer: true,
-    signed: false,
-    typed: true,
-    scalar: true,
-};
-
-const OPAQUE1: Traits = Traits {
-    width: 1,
-    integer: false,
-    signed: false,
-    typed: true,
-    scalar: true,
-};
-
-const OPAQUE2: Traits = Traits {
-    width: 2,
-    integer: false,
-    signed: false,
-    typed: true,
-    scalar: true,
-};
-
-const OPAQUE4: Traits = Traits {
-    width: 4,
-    integer: false,
-    signed: false,
-    typed: true,
-    scalar: true,
-};
-
-const OPAQUE8: Traits = Traits {
-    width: 8,
-    integer: false,
-    signed: false,
-    typed: true,
-    scalar: true,
+    ..UNSIGNED
 };
 
 impl Mark {
@@ -204,19 +123,31 @@ impl Mark {
             Mark::NULL => EMPTY,
             Mark::TRUE => EMPTY,
             Mark::FALSE => EMPTY,
-            Mark::INT8 => SIGNED1,
-            Mark::UINT8 => UNSIGNED1,
-            Mark::INT16 => SIGNED2,
-            Mark::UINT16 => UNSIGNED2,
-            Mark::INT32 => SIGNED4,
-            Mark::UINT32 => UNSIGNED4,
-            Mark::INT64 => SIGNED8,
-            Mark::UINT64 => UNSIGNED8,
-            Mark::HALF => OPAQUE2,
-            Mark::SINGLE => OPAQUE4,
-            Mark::DOUBLE => OPAQUE8,
-            Mark::CHAR => OPAQUE1,
-            Mark::BYTE => OPAQUE1,
+            Mark::INT8 => Traits { width: 1, ..SIGNED },
+            Mark::UINT8 => Traits {
+                width: 1,
+                ..UNSIGNED
+            },
+            Mark::INT16 => Traits { width: 2, ..SIGNED },
+            Mark::UINT16 => Traits {
+                width: 2,
+                ..UNSIGNED
+            },
+            Mark::INT32 => Traits { width: 4, ..SIGNED },
+            Mark::UINT32 => Traits {
+                width: 4,
+                ..UNSIGNED
+            },
+            Mark::INT64 => Traits { width: 8, ..SIGNED },
+            Mark::UINT64 => Traits {
+                width: 8,
+                ..UNSIGNED
+            },
+            Mark::HALF => Traits { width: 2, ..OPAQUE },
+            Mark::SINGLE => Traits { width: 4, ..OPAQUE },
+            Mark::DOUBLE => Traits { width: 8, ..OPAQUE },
+            Mark::CHAR => Traits { width: 1, ..OPAQUE },
+            Mark::BYTE => Traits { width: 1, ..OPAQUE },
             _ => OTHER,
         }
     }

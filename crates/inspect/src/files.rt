@@ -26,6 +26,7 @@ pub struct Program<'a> {
 // Reads until the room is full, the input ends or a read fails; answers what was read, unless a read failed.
 fn read<'r>(from: &mut impl Read, room: &'r mut [u8]) -> io::Result<&'r [u8]> {
     let mut count = 0;
+    // No `for`: a read gives as many bytes as it will.
     while count < room.len() {
         match from.read(&mut room[count..])? {
             0 => break,

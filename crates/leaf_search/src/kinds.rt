@@ -47,6 +47,7 @@ fn group(message: &[u8], levels: usize, brace: bool, at: usize, offset: usize, s
     let mut i = at + 1;
     let mut here = offset;
     let mut sought = seen;
+    // No `for`: where the next member begins is known only once this one is walked.
     while i < message.len() {
         let from = after_key(message, brace, i);
         let walk = kind(message, levels - 1, from, here, sought);

@@ -9,6 +9,7 @@ pub fn read_full(input: &mut impl Read, text: &mut [u8]) -> io::Result<usize>
     ensures { IfOk result (λ n. n ≤ length text.new) }
 {
     let mut done: usize = 0;
+    // No `for`: a read gives as many bytes as it will.
     while done < text.len() {
         let n = input.read(&mut text[done..])?;
         if n == 0 {

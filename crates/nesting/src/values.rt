@@ -174,6 +174,7 @@ pub fn plain(
     let mut at = start;
     let mut row = first;
     let mut count = 0;
+    // No `for`: how many members there are is known only at the closing mark.
     loop {
         at = skip(message, at);
         if end <= at {

@@ -51,6 +51,7 @@ pub fn fields_at(message: &[u8], schema: usize, leaf: usize) -> Fields
         return off;
     }
     let mut i = schema + 1;
+    // No `for`: where the next member begins is known only once this one is walked.
     while i < end {
         let from = after_key(message, true, i);
         let walk = kind(message, KIND_LEVELS, from, wide, seen);

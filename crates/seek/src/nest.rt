@@ -108,6 +108,7 @@ fn plain(
         row: first,
         left: number,
     };
+    // No `for`: how many members there are is known only at the closing mark.
     loop {
         let here = skip(message, past.at);
         if end <= here {

@@ -71,6 +71,7 @@ pub fn field(rows: &[u32], leaf: usize, schema: usize, from: usize) -> Result<us
     let mut row = from;
     // The member of the schema itself, once one was gone into.
     let mut top = None;
+    // No `for`: the next row is where a link leads, or stands inside this one.
     loop {
         match advance(rows, leaf, container, row)? {
             Step::Leaf(here) => return Ok(top.unwrap_or(here)),
