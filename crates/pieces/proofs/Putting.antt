@@ -4,10 +4,11 @@ use mathlib.Core.Path.{◌≡◌, refl, ap, ◌∙◌}
 use mathlib.Core.Bool.{Bool, true, false}
 use mathlib.Core.List.{List, [], ◌∷◌, ◌++◌}
 use native.Mathlib.Omega.{arith}
+use native.Mathlib.Numerals.{add-one}
 use lib.ListN.{length, set, take, drop, get_or, length-set, length-take, length-append}
 use lib.Dec.{eqb}
 use borrow.Author.Tests.{lt-ltb, le-ltb}
-use lib.Seq.{sets, length-sets}
+use lib.Seq.{sets, length-sets, length-take-le, take_all, take-suc}
 use Rattle.format.specs.Conditions.{when◌then◌else◌, among}
 use Rattle.format.specs.Marks.{width, 'U', 'u', 'm', ']'}
 use Rattle.format.specs.Tokens.{plain_count, first_slowest}
@@ -17,9 +18,7 @@ use Rattle.format.specs.Extensions.{id_bytes}
 use Rattle.format.specs.HouseForm.{digits, small_integer}
 use Rattle.format.proofs.MarkFacts.{width_few}
 use Rattle.format.proofs.Little.{length_digits}
-use borrow.Rule.Slice.PartMut.{put_mid}
 use Rattle.std.specs.Int.{to_le_bytes, w32}
-use Rattle.rows.proofs.Chunks.{put_at}
 use Rattle.rows.proofs.Overlay.{sets_append}
 use Rattle.pieces.specs.Puts.{Puts}
 use Rattle.pieces.specs.Shapes.{shape_end}
@@ -50,11 +49,20 @@ puts_append {l} {l'} {l''} {at} {mid} {next} x y p q =
           q.there (omega arith) ∙ ap (λ s. sets s mid y) (p.there a) ∙ ap (λ j. sets (sets l at x) j y) e ∙ sets_append x y l at;
     }
 
--- a part
-pub puts_part : (l part : List ℕ) (at next k : ℕ) → next ≡ at + length part → k ≡ length part → next ≤ length l → Puts l (put_mid at k l part) at next part
-puts_part l part at next k e f h =
-    let s = put_at l part at k f (omega arith) in
-    record { reach = e; kept = ap length s ∙ length-sets l at part; there = λ q. s }
+-- ---- byte by byte
+
+-- one byte more of a part
+pub part_on : (l part : List ℕ) (at i : ℕ) → i < length part → set (sets l at (take i part)) (at + i) (get_or part i 0) ≡ sets l at (take (i + 1) part)
+part_on l part at i h =
+    let e : length (take i part) ≡ i = length-take-le i part (omega arith) in
+    let s = sets_append (take i part) (get_or part i 0 ∷ []) l at in
+    rw (add-one i, take-suc part i 0 h) (ap (λ j. set (sets l at (take i part)) j (get_or part i 0)) (omega arith) ∙ s)
+
+-- all of it
+pub part_end : (l l' part : List ℕ) (at next i : ℕ) → next ≡ at + length part → i ≤ length part → length part ≤ i → l' ≡ sets l at (take i part) → Puts l l' at next part
+part_end l l' part at next i e low high q =
+    let f = q ∙ ap (sets l at) (take_all i part high) in
+    record { reach = e; kept = ap length f ∙ length-sets l at part; there = λ h. f }
 
 -- ---- a mark and its number
 
