@@ -70,7 +70,8 @@ fn positioned(
     Ok(number(load(rows, container).order, dims, indexes))
 }
 
-// A packed row and indexes.
+// A packed row and indexes. Inlined, since a call would hand the answer over in memory.
+#[inline(always)]
 pub fn packed(rows: &[u32], size: usize, row: usize, indexes: &[usize]) -> Result<Slot, Refusal>
     requires { size < 2 ^ 63 }
     ensures { slot_of result ≡ Addresses.packed_slot rows.now size row indexes.now }
@@ -83,7 +84,8 @@ pub fn packed(rows: &[u32], size: usize, row: usize, indexes: &[usize]) -> Resul
     inside(size, p.mark, from, 0, wide as u32)
 }
 
-// A leaf's slot in a record of a table, by the number of the record.
+// A leaf's slot in a record of a table, by the number of the record. Inlined for the same reason.
+#[inline(always)]
 fn in_record(
     rows: &[u32],
     size: usize,

@@ -59,6 +59,7 @@ fn one(
 // Every line.
 pub fn all(rt: &impl Print, input: &[u8], message: &mut [u8], output: &mut [u8]) -> io::Result<()> {
     let mut text = Text { rest: input };
+    // No `for`: where the next line begins is known only once this one is read.
     while !text.rest.is_empty() {
         one(rt, &mut text, message, output)?;
     }

@@ -81,6 +81,7 @@ impl<'a> Text<'a> {
         ensures stops { (slice_index_or self.new.rest.now 0 10 == 32) ≡ false }
     {
         let mut n: usize = 0;
+        // No `for`: how many words follow is known only at the line's end.
         while self.byte() == b' ' {
             self.skip();
             n = self.word(message, n);

@@ -32,6 +32,7 @@ fn after_character(lead: u8, bytes: &[u8]) -> Option<&[u8]>
 // Whether bytes are whole characters.
 fn is_text(bytes: &[u8]) -> bool {
     let mut left = bytes;
+    // No `for`: a character takes one to four bytes.
     while let Some((lead, rest)) = left.split_first() {
         let Some(after) = after_character(*lead, rest) else {
             return false;

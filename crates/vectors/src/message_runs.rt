@@ -35,6 +35,7 @@ fn one(rt: &impl Print, text: &mut Text<'_>, message: &mut [u8]) -> io::Result<(
 // Every line.
 pub fn all(rt: &impl Print, input: &[u8], message: &mut [u8]) -> io::Result<()> {
     let mut text = Text { rest: input };
+    // No `for`: where the next line begins is known only once this one is read.
     while !text.rest.is_empty() {
         one(rt, &mut text, message)?;
     }
