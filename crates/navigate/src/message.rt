@@ -1,7 +1,8 @@
 // An accepted message, and what its rows are.
 ghost use Rattle.std.specs.Prelude.{◌≡◌, ◌+◌, ◌-◌, ◌<◌, ◌≤◌, ◌^◌, ◌↔◌, ◌≢◌, IsTrue, IfSome, IsNone, min, length, slice_get};
 ghost use Rattle.format.specs.Rows.{row_at, rows_in};
-ghost use Rattle.format.specs.Tokens.{kind_number};
+ghost use Rattle.format.specs.Tokens as Tokens;
+ghost use Rattle.format.specs.Tokens.{kind_number, key};
 ghost use Rattle.format.specs.Answers as Answers;
 ghost use Rattle.rows.specs.Row.{row_of, no_row};
 
@@ -76,8 +77,8 @@ impl<'a> Message<'a> {
     // The row of a member's key, which is the row before it, if it has one.
     pub fn key(self, member: usize) -> Option<usize>
         ensures before { IfSome result (λ row. row + 1 ≡ member) }
-        ensures kind { IfSome result (λ row. (row_at self.entry.rows.now row).kind ≡ 4) }
-        ensures none { IsNone result → 0 < member → member ≤ rows_in self.entry.rows.now → (row_at self.entry.rows.now (member - 1)).kind ≢ 4 }
+        ensures kind { IfSome result (λ row. (row_at self.entry.rows.now row).kind ≡ kind_number key) }
+        ensures none { IsNone result → 0 < member → member ≤ rows_in self.entry.rows.now → (row_at self.entry.rows.now (member - 1)).kind ≢ kind_number key }
     {
         let row = member.checked_sub(1)?;
         if is_key(self.row(row)) {
@@ -90,31 +91,16 @@ impl<'a> Message<'a> {
 // What a row is; none where there is no row.
 pub fn kind_of(r: Row) -> Option<Kind>
     ensures some { IfSome result (λ kind. kind_number (Answers.kind_of kind) ≡ r.kind) }
-    ensures none { IsNone result → r.kind ≢ 0 → 13 < r.kind }
+    ensures none { IsNone result → (kind : Tokens.Kind) → kind_number kind ≢ r.kind }
 {
-    match r.kind {
-        1 => Some(Kind::Scalar),
-        2 => Some(Kind::Text),
-        3 => Some(Kind::HighPrecision),
-        4 => Some(Kind::Key),
-        5 => Some(Kind::Array),
-        6 => Some(Kind::Object),
-        7 => Some(Kind::Packed),
-        8 => Some(Kind::Table),
-        9 => Some(Kind::Leaf),
-        10 => Some(Kind::SchemaRecord),
-        11 => Some(Kind::FixedArray),
-        12 => Some(Kind::Dimension),
-        13 => Some(Kind::Extension),
-        _ => None,
-    }
+    Kind::try_from(r.kind).ok()
 }
 
 // Whether a row is a key's.
 pub fn is_key(r: Row) -> bool
-    ensures { IsTrue result ↔ (r.kind ≡ 4) }
+    ensures { IsTrue result ↔ (r.kind ≡ kind_number key) }
 {
-    matches!(kind_of(r), Some(Kind::Key))
+    r.kind == Kind::Key.number()
 }
 
 // The byte after a row's payload.

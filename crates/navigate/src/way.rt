@@ -2,6 +2,7 @@
 ghost use Rattle.std.specs.Prelude.{◌≡◌, ◌≤◌, ◌-◌, ◌↔◌, IsTrue, MatchOption};
 ghost use Rattle.std.specs.Iterator.{at_most};
 ghost use Rattle.format.specs.Rows.{word as word_in};
+ghost use Rattle.format.specs.Tokens.{kind_number, leaf};
 ghost use Rattle.navigate.specs.Leaves.{HasNoLeaf, IsPastFirstLeaf};
 
 use crate::message::is_key;
@@ -95,7 +96,7 @@ impl Way {
 
 // Whether a row is a leaf's.
 fn is_leaf(rows: &[u32], row: usize) -> bool
-    ensures { IsTrue result ↔ (word_in rows.now row 0 ≡ 9) }
+    ensures { IsTrue result ↔ (word_in rows.now row 0 ≡ kind_number leaf) }
 {
     word(rows, row, 0) == Kind::Leaf.number() as usize
 }
