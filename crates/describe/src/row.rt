@@ -29,10 +29,10 @@ impl Unit {
     pub fn of(r: Row) -> Unit
         ensures { (result ≡ Unit.Record) ↔ (r.kind ≡ 8) }
     {
-        match kind_of(r) {
-            Some(Kind::Table) => Unit::Record,
-            _ => Unit::Element,
+        if r.kind == Kind::Table.number() {
+            return Unit::Record;
         }
+        Unit::Element
     }
 }
 
