@@ -1,5 +1,5 @@
 -- Bytes put one after another: in pieces, byte by byte, and digit by digit. Assumes nothing.
-use Prim.Native.Nat.{ℕ, ◌+◌, ◌/◌, ◌%◌, ◌≤◌, ◌<◌}
+use Prim.Native.Nat.{ℕ, zero, suc, ◌+◌, ◌/◌, ◌%◌, ◌≤◌, ◌<◌}
 use mathlib.Core.Path.{◌≡◌, refl, ap, ◌∙◌}
 use mathlib.Core.Bool.{Bool, true, false}
 use mathlib.Core.List.{List, [], ◌∷◌, ◌++◌}
@@ -79,22 +79,34 @@ pub in_four : (n : ℕ) → 65536 ≤ n → smallest n ≡ 'm'
 unfolding smallest width among when◌then◌else◌
 in_four n h = rw (le-ltb n 256 (omega arith), le-ltb n 65536 h) refl
 
--- the bytes of a number are its digits
+-- what goes with these marks is four bytes at most
+pub few_in_one : width 'U' ≤ 4
+unfolding width among when◌then◌else◌
+few_in_one = omega arith
+
+pub few_in_two : width 'u' ≤ 4
+unfolding width among when◌then◌else◌
+few_in_two = omega arith
+
+pub few_in_four : width 'm' ≤ 4
+unfolding width among when◌then◌else◌
+few_in_four = omega arith
+
+-- the bytes of a number are its digits, as many of them as are asked for
 module _ (n : ℕ) (bytes : List ℕ) (low : bytes ≡ to_le_bytes w32 n) where
-  pub one_digit : take 1 bytes ≡ digits (width 'U') n
-  unfolding digits width among when◌then◌else◌
-  one_digit = rw low
-
-  pub two_digits : take 2 bytes ≡ digits (width 'u') n
-  unfolding digits width among when◌then◌else◌
-  two_digits = rw low
-
-  pub four_digits : bytes ≡ digits (width 'm') n
-  unfolding digits width among when◌then◌else◌
-  four_digits =
+  pub low_digits : (wide : ℕ) → wide ≤ 4 → take wide bytes ≡ digits wide n
+  unfolding digits
+  low_digits zero h = refl
+  low_digits (suc zero) h = rw low
+  low_digits (suc (suc zero)) h = rw low
+  low_digits (suc (suc (suc zero))) h =
+      let third : n / 65536 % 256 ≡ n / 256 / 256 % 256 = omega arith in
+      rw (low, third)
+  low_digits (suc (suc (suc (suc zero)))) h =
       let third : n / 65536 % 256 ≡ n / 256 / 256 % 256 = omega arith in
       let fourth : n / 16777216 % 256 ≡ n / 256 / 256 / 256 % 256 = omega arith in
       rw (low, third, fourth)
+  low_digits (suc (suc (suc (suc (suc k))))) h = absurd (omega arith)
 
 -- a number under the smallest mark
 pub integer_puts : {l l' : List ℕ} {at next : ℕ} (n mark : ℕ) → smallest n ≡ mark → Puts l l' at next (mark ∷ digits (width mark) n) → Puts l l' at next (small_integer n)

@@ -1,6 +1,7 @@
 // Bytes, parts and integers.
-ghost use Rattle.std.specs.Prelude.{[], ◌∷◌, ◌<◌, ◌^◌};
-ghost use Rattle.format.specs.HouseForm.{small_integer};
+ghost use Rattle.std.specs.Prelude.{[], ◌∷◌, ◌<◌, ◌≤◌, ◌^◌};
+ghost use Rattle.format.specs.Marks.{width};
+ghost use Rattle.format.specs.HouseForm.{digits, small_integer};
 ghost use Rattle.pieces.specs.Puts.{Puts};
 
 use crate::put_scalar;
@@ -34,17 +35,25 @@ pub fn put_part(output: &mut [u8], at: usize, part: &[u8]) -> usize
     next
 }
 
+// A number under a mark: the mark, and as many of the number's bytes as go with it, the lowest first.
+fn put_number(output: &mut [u8], at: usize, mark: u8, n: u32) -> usize
+    requires { (at < 2 ^ 61) × (width mark ≤ 4) }
+    ensures { Puts output.old output.new at result (mark ∷ digits (width mark) n) }
+{
+    let digits = n.to_le_bytes();
+    put_scalar(output, at, mark, &digits[..Mark(mark).width()])
+}
+
 // A length, a count or a dimension: the smallest of `U u m` that holds it, and its number.
 pub fn put_integer(output: &mut [u8], at: usize, n: u32) -> usize
     requires { at < 2 ^ 61 }
     ensures { Puts output.old output.new at result (small_integer n) }
 {
-    let digits = n.to_le_bytes();
     if n < 256 {
-        return put_scalar(output, at, Mark::UINT8, &digits[..1]);
+        return put_number(output, at, Mark::UINT8, n);
     }
     if n < 65536 {
-        return put_scalar(output, at, Mark::UINT16, &digits[..2]);
+        return put_number(output, at, Mark::UINT16, n);
     }
-    put_scalar(output, at, Mark::UINT32, &digits)
+    put_number(output, at, Mark::UINT32, n)
 }
