@@ -14,7 +14,7 @@ use Rattle.tokens.specs.Answers.{onto}
 use Rattle.format.specs.Answers.{refused, refusal_number}
 use Rattle.format.specs.declared.refusals.Refusal.{Refusal}
 use Rattle.format.specs.declared.refusals.Refused.{Refused}
-use Rattle.laws.proofs.Schemas.{group_kind}
+use Rattle.laws.specs.Groups.{group_kind}
 use Rattle.kinds.specs.declared.Kinds.{Kinds}
 use Rattle.kinds.specs.declared.starts.Class.{Class}
 use Rattle.kinds.specs.declared.starts.Class.TheVariants.{Plain, Text, Group}

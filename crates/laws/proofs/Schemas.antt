@@ -7,11 +7,12 @@ use lib.Dec.{eqb}
 use borrow.Author.Tests.{eq-eqb}
 use Rattle.format.specs.Conditions.{among}
 use Rattle.format.specs.Marks.{Opening, bracket, brace, opens, integers, types, is_plain_leaf, is_leaf, 'S'}
-use Rattle.format.specs.Tokens.{Token, Kind, key as kind_of_key, leaf as kind_of_leaf, schema_record, fixed_array, plain_count, Forest, none, node, ◌⊕◌}
+use Rattle.format.specs.Tokens.{Token, Kind, key as kind_of_key, leaf as kind_of_leaf, plain_count, Forest, none, node, ◌⊕◌}
 use Rattle.format.specs.Records.{total_width}
 use Rattle.format.specs.Sequences.{Reader, ◌⨾◌, until}
 use Rattle.format.specs.Scalars as Scalars
 use Rattle.format.specs.Schemas as Schemas
+pub use Rattle.laws.specs.Groups.{group_kind}
 use Rattle.laws.proofs.Holds.{Holds, holds, bind_law, then_law, if_law, seq_law, other, any_law, weaken}
 
 -- a token of this kind, with such a mark, that has no order
@@ -19,10 +20,6 @@ pub record Is (kind : Kind) (marks : ℕ → Bool) (t : Token) : Type 0 where
   pub kind_is : t.kind ≡ kind
   pub mark_is : marks t.mark ≡ true
   pub order_is : t.order ≡ plain_count
-
-abbrev pub group_kind : Opening → Kind
-group_kind bracket = fixed_array
-group_kind brace = schema_record
 
 -- the members of a schema have keys, those of a fixed array none
 abbrev pub keyed : Opening → Bool

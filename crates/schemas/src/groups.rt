@@ -5,7 +5,7 @@ ghost use Rattle.format.specs.Marks.{bracket, brace as brace_opening, opens, ope
 ghost use Rattle.format.specs.Answers.{kind_of};
 ghost use Rattle.format.specs.Rows.{row_of};
 ghost use Rattle.format.specs.Schemas.{table_schema};
-ghost use Rattle.laws.proofs.Schemas.{group_kind};
+ghost use Rattle.laws.specs.Groups.{group_kind};
 ghost use Rattle.rows.specs.Row.{ancestry_of, store as store_in};
 ghost use Rattle.tokens.specs.Answers.{Here};
 ghost use Rattle.kinds.specs.Answers.{over, group_at, group_from, Meets, Within};
