@@ -8,11 +8,12 @@ ghost use Rattle.format.specs.Answers.{kind_of};
 ghost use Rattle.format.specs.Containers.{container_kind};
 ghost use Rattle.format.specs.Rows.{held_by};
 ghost use Rattle.rows.specs.Row.{ancestry_of};
-ghost use Rattle.tokens.specs.Answers.{Laid, Ends};
-ghost use Rattle.containers.specs.Lists.{ListLaid, ListEnds, closed};
+ghost use Rattle.tokens.specs.Answers.{Laid, Ends, Meets, Within};
+ghost use Rattle.containers.specs.Lists.{ListLaid, ListEnds, ListMeets, ListWithin, closed};
 
 use format::answers::Kind;
 use format::marks::opening_mark;
+use format::refusals::Refused;
 use rows::Ancestry;
 use tokens::entry::{Entry, put};
 use tokens::{End, Members};
@@ -29,7 +30,7 @@ pub fn container_kind(brace: bool) -> Kind
 }
 
 // The row of an array or object over what it holds, which starts at `start` and is followed by `shut` bytes of closing mark.
-pub fn close(
+pub fn enclose(
     rows: &mut [u32],
     brace: bool,
     at: usize,
@@ -62,4 +63,23 @@ pub fn close(
         at: list.at + shut,
         row: list.row,
     }
+}
+
+// The same over a list that may be refused: its refusal is handed on.
+pub fn close(
+    rows: &mut [u32],
+    brace: bool,
+    at: usize,
+    row: usize,
+    start: usize,
+    shut: usize,
+    list: Result<Members, Refused>,
+    ancestry: Ancestry,
+) -> Result<End, Refused>
+    requires { (row ≤ at) × (at < start) × (shut ≤ 1) × ListWithin list start limit limit }
+    ensures meets { (o : Parsed Forest) (before : List ℕ) → ListMeets list o (row + 1) (held_by row (ancestry_of ancestry)) before rows.old → Meets result (closed (opening_of brace) at start shut o) row 1 (ancestry_of ancestry) before rows.new }
+    ensures bounds { (high lent : ℕ) → ListWithin list start (high - shut) lent → shut ≤ high → Within result start high lent }
+{
+    let members = list?;
+    Ok(enclose(rows, brace, at, row, start, shut, members, ancestry))
 }

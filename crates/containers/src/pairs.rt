@@ -82,6 +82,6 @@ pub fn typed_object(
     let count = integer(message, from)?;
     let n = count.number as usize;
     let start = count.next;
-    let list = pairs(message, rows, lent, mark, n, start, below, children)?;
-    Ok(close(rows, true, at, row, start, 0, list, ancestry))
+    let list = pairs(message, rows, lent, mark, n, start, below, children);
+    close(rows, true, at, row, start, 0, list, ancestry)
 }

@@ -12,7 +12,7 @@ ghost use Rattle.runs.specs.Runs.{Begins};
 ghost use Rattle.items.specs.Headers.{member_of};
 ghost use Rattle.nesting.specs.Values.{PlainMeets, RestMeets, RestWithin, FollowingMeets, FollowingWithin, EachByte};
 
-use containers::lists::close;
+use containers::lists::{close, enclose};
 use format::answers::Edition;
 use format::marks::{Mark, closing_mark};
 use format::refusals::{Refusal, Refused};
@@ -130,7 +130,7 @@ fn following(
             below,
             children,
         )?;
-        let end = close(rows, inner, at, row, start, 1, list, ancestry);
+        let end = enclose(rows, inner, at, row, start, 1, list, ancestry);
         return Ok(Members {
             at: end.at,
             row: end.row,
@@ -261,7 +261,7 @@ fn deep(
         below,
         children,
     )?;
-    let end = close(rows, inner, start, first, next, 1, list, ancestry);
+    let end = enclose(rows, inner, start, first, next, 1, list, ancestry);
     rest(
         edition, message, rows, lent, levels, brace, end.at, end.row, 1, ancestry,
     )
@@ -330,16 +330,16 @@ pub fn container(
             let left = levels - 1;
             let list = counted(
                 edition, message, rows, lent, left, brace, n, start, below, children,
-            )?;
-            Ok(close(rows, brace, at, row, start, 0, list, ancestry))
+            );
+            close(rows, brace, at, row, start, 0, list, ancestry)
         }
         Header::Plain => {
             let start = at + 1;
             let left = levels - 1;
             let list = plain(
                 edition, message, rows, lent, left, brace, start, below, children,
-            )?;
-            Ok(close(rows, brace, at, row, start, 1, list, ancestry))
+            );
+            close(rows, brace, at, row, start, 1, list, ancestry)
         }
     }
 }

@@ -13,35 +13,22 @@ use Rattle.format.specs.Read.{nested}
 use Rattle.laws.proofs.Skips.{skip_again}
 use Rattle.scan.proofs.Stands.{stands_there}
 use Rattle.runs.proofs.Passing.{passed_start, passed_one}
+use Rattle.tokens.proofs.Laying.{within_from}
 use Rattle.items.specs.Headers.{member_of}
 use Rattle.items.proofs.ItemLaws.{opened_meets}
 use Rattle.nesting.proofs.Following.{closing_here, opening_begins, some_passed, until_passed, until_skip, passed_stop, list-fault, list_passed, opened_plain, first-fault}
 use Rattle.containers.proofs.Loops.{some_start, some_step, some_fault, some_end, until_start, until_early, until_stop, until-fault}
 use Rattle.nesting.proofs.values.+container_counted_deep_following_held_member_plain_rest.Goals as goal
 
-pub container-returns-in_err-list-in-Counted-clause-meets : goal.container-returns-in_err-list-in-Counted-clause-meets
-unfolding closed ◌>>=◌
-container-returns-in_err-list-in-Counted-clause-meets t c =
-    let p = err_from_is_err_and c.from_residual-in_err-list-in-Counted.result c.from_residual-in_err-list-in-Counted.ensures.1 in
-    let h = rw c.in-Counted.is at c.in_ok-header_at.ensures.meets in
-    rw (p.1, p.2, h (grammar_of c.args.edition) (opening_of c.args.brace), c.in_err-list-in-Counted.ensures.meets)
-
-pub container-returns-in_err-list-in-Plain-clause-meets : goal.container-returns-in_err-list-in-Plain-clause-meets
-unfolding closed ◌>>=◌
-container-returns-in_err-list-in-Plain-clause-meets t c =
-    let p = err_from_is_err_and c.from_residual-in_err-list-in-Plain.result c.from_residual-in_err-list-in-Plain.ensures.1 in
-    let h = rw c.in-Plain.is at c.in_ok-header_at.ensures.meets in
-    rw (p.1, p.2, h (grammar_of c.args.edition) (opening_of c.args.brace), c.in_err-list-in-Plain.ensures.meets (length c.args.message.now) (omega arith))
-
-pub container-returns-in_ok-list-in-Counted-clause-bounds : goal.container-returns-in_ok-list-in-Counted-clause-bounds
-container-returns-in_ok-list-in-Counted-clause-bounds t c =
+pub container-returns-in-Counted-clause-bounds : goal.container-returns-in-Counted-clause-bounds
+container-returns-in-Counted-clause-bounds t c =
     let w = rw c.in-Counted.is at c.in_ok-header_at.ensures.bounds in
-    let z = c.close.ensures.bounds (length c.args.message.now) c.args.lent (rw (sub-zero (length c.args.message.now)) c.in_ok-list-in-Counted.ensures.bounds) (omega arith) in omega (arith, w, z)
+    let z = c.close in within_from z.result _ _ _ _ (omega (arith, w)) (z.ensures.bounds _ _ (rw (sub-zero (length c.args.message.now)) c.counted-list.ensures.bounds) (omega arith))
 
-pub container-returns-in_ok-list-in-Plain-clause-bounds : goal.container-returns-in_ok-list-in-Plain-clause-bounds
-container-returns-in_ok-list-in-Plain-clause-bounds t c =
+pub container-returns-in-Plain-clause-bounds : goal.container-returns-in-Plain-clause-bounds
+container-returns-in-Plain-clause-bounds t c =
     let w = rw c.in-Plain.is at c.in_ok-header_at.ensures.bounds in
-    let z = c.close-in-Plain.ensures.bounds (length c.args.message.now) c.args.lent c.in_ok-list-in-Plain.ensures.bounds (omega (arith, w)) in omega (arith, w, z)
+    let z = c.close-in-Plain in within_from z.result _ _ _ _ (omega (arith, w)) (z.ensures.bounds _ _ c.plain-list.ensures.bounds (omega (arith, w)))
 
 pub counted-loop-count-init : goal.counted-loop-count-init
 counted-loop-count-init t c =
@@ -81,7 +68,7 @@ pub deep-returns : goal.deep-returns
 deep-returns t c =
     let o = c.opens_deep.ensures c.if-not-opens_deep.false in
     let l = c.in_ok-list.ensures in
-    let z = c.close-end.ensures in
+    let z = c.enclose-end.ensures in
     let w = z.bounds (length c.args.message.now) c.args.lent l.bounds (omega (arith, o.there)) in
     let h = z.meets _ _ (rw c.held_by-children.ensures.is at (l.meets (length c.args.message.now) (omega arith))) in
     let v = c.rest-2 in
@@ -91,7 +78,7 @@ deep-returns t c =
 pub deep-rest-requires-2 : goal.deep-rest-requires-2
 deep-rest-requires-2 t c =
     let o = c.opens_deep.ensures c.if-not-opens_deep.false in
-    let w = c.close-end.ensures.bounds (length c.args.message.now) c.args.lent c.in_ok-list.ensures.bounds (omega (arith, o.there)) in (omega arith, (omega (arith, w), omega (arith, w), omega (arith, w)))
+    let w = c.enclose-end.ensures.bounds (length c.args.message.now) c.args.lent c.in_ok-list.ensures.bounds (omega (arith, o.there)) in (omega arith, (omega (arith, w), omega (arith, w), omega (arith, w)))
 
 pub deep-returns-in_err-list-clause-meets : goal.deep-returns-in_err-list-clause-meets
 unfolding closed ◌>>=◌
@@ -121,14 +108,14 @@ pub following-returns-then-opens_plain-clause-meets : goal.following-returns-the
 following-returns-then-opens_plain-clause-meets t c =
     let o = c.opens_plain.ensures c.if-opens_plain.true in
     let l = c.in_ok-list.ensures in
-    let z = c.close-end.ensures in
+    let z = c.enclose-end.ensures in
     let w = z.bounds (length c.args.message.now) c.args.lent l.bounds (omega (arith, o.there)) in
     passed_one _ _ _ _ _ _ _ _ _ _ c.requires.1 (omega (arith, w)) (rw (opened_plain _ _ _ _ _ _ _ _ o) (z.meets _ _ (rw c.held_by-children.ensures.is at (l.meets (length c.args.message.now) (omega arith)))))
 
 pub following-returns-then-opens_plain-clause-bounds : goal.following-returns-then-opens_plain-clause-bounds
 following-returns-then-opens_plain-clause-bounds t c =
     let o = c.opens_plain.ensures c.if-opens_plain.true in
-    let w = c.close-end.ensures.bounds (length c.args.message.now) c.args.lent c.in_ok-list.ensures.bounds (omega (arith, o.there)) in omega (arith, w)
+    let w = c.enclose-end.ensures.bounds (length c.args.message.now) c.args.lent c.in_ok-list.ensures.bounds (omega (arith, o.there)) in omega (arith, w)
 
 pub following-returns-clause-meets : goal.following-returns-clause-meets
 following-returns-clause-meets t c =
