@@ -41,7 +41,7 @@ struct Open {
 }
 
 // Where the way has come to.
-#[derive(Drop)]
+#[derive(Clone, Copy)]
 pub struct Walk<'a> {
     message: Message<'a>,
     // The byte, and the first row that is not open yet.
@@ -228,8 +228,8 @@ impl<'a> Walk<'a> {
 
     // The byte after the no-ops that stand at the byte.
     fn noops_end(&self) -> usize {
-        let rest = self.message.bytes.iter().skip(self.byte);
-        let noops = rest.take_while(|b| **b == Mark::NOOP);
+        let rest = self.message.bytes.get(self.byte..).unwrap_or(&[]);
+        let noops = rest.iter().take_while(|b| **b == Mark::NOOP);
         self.byte.saturating_add(noops.count())
     }
 

@@ -18,12 +18,12 @@ pub struct Member {
     pub place: usize,
 }
 
-// The members, and how many there are: a schema nests less deep than there is room. The room is fixed, since nothing is allocated.
+// The members, and how many there are: a schema nests less deep than there is room. The room is fixed, since nothing is allocated. The
+// way may be of any depth; its members are those that there is room for.
 #[derive(Clone, Copy)]
 pub struct Way {
-    room: [Member; 16],
-    depth: usize,
-    ghost inside: { depth ≤ 16 },
+    pub room: [Member; 16],
+    pub depth: usize,
 }
 
 impl Way {
@@ -37,7 +37,7 @@ impl Way {
 
     // The members, the top-level field first.
     pub fn members(&self) -> &[Member] {
-        &self.room[..self.depth]
+        &self.room[..self.depth.min(16)]
     }
 
     // The row of the top-level field.

@@ -13,6 +13,8 @@
 //     out.direct(bytes);                       writes bytes to standard output, past the block
 //
 // After `flush`, `complain` and `fail` the block is empty. `names` has the words for kinds, marks, ids and refusals, and the ending of a plural.
+ghost use Rattle.std.specs.Prelude.{◌≤◌, length};
+
 use std::fmt::Display;
 use std::io::{Stderr, Stdout, Write};
 use std::{fmt, io};
@@ -134,7 +136,9 @@ impl<'a> fmt::Write for Block<'a> {
 }
 
 // The text of an error, put into its room, without the system's number for it, which stands after it.
-fn reason(why: io::Error, room: &mut [u8; 96]) -> &[u8] {
+fn reason(why: io::Error, room: &mut [u8; 96]) -> &[u8]
+    ensures { length result.now ≤ 96 }
+{
     let mut rest: &mut [u8] = room;
     let _ = write!(rest, "{why}");
     let n = 96usize.saturating_sub(rest.len());
