@@ -27,7 +27,7 @@ fn rest(text: &[u8], from: usize) -> &[u8]
 
 // A number with one more decimal digit. A number that has no room for one more is kept as it is: it is still larger than any
 // count, length, row or index that is in range.
-fn longer(value: usize, digit: u8) -> usize {
+pub(crate) fn longer(value: usize, digit: u8) -> usize {
     match digit {
         b'0'..=b'9' if value < usize::MAX / 10 => value * 10 + usize::from(digit - b'0'),
         _ => value,

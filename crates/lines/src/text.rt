@@ -3,21 +3,13 @@ ghost use Rattle.std.specs.Prelude.{◌≡◌, ◌==◌, ◌≤◌, ◌<◌, fal
 ghost use Rattle.std.specs.Char.{is_ascii_digit};
 ghost use Rattle.format.specs.declared.answers.Edition.TheVariants.{Old, New};
 
+use crate::numbers::longer;
 use format::answers::Edition;
 
 // The bytes that are left.
 #[derive(Clone, Copy)]
 pub struct Text<'a> {
     pub rest: &'a [u8],
-}
-
-// A number with one more decimal digit. A number that has no room for one more is kept as it is: it is still larger than any
-// count, length, row or index that is in range.
-fn longer(value: usize, digit: u8) -> usize {
-    match digit {
-        b'0'..=b'9' if value < usize::MAX / 10 => value * 10 + usize::from(digit - b'0'),
-        _ => value,
-    }
 }
 
 impl<'a> Text<'a> {

@@ -34,8 +34,21 @@ fn once(hex: &[u8], message: &mut [u8], first: usize) -> usize {
     first.saturating_add(hex.len() / 2)
 }
 
-// The same, so many times.
+// The same, so many times: of one byte all at once, since a message at the limit is one byte repeated. Digits that stand for no byte store
+// none, however often.
 fn repeated(hex: &[u8], times: usize, message: &mut [u8], first: usize) -> usize {
+    if let &[high, low] = hex {
+        let end = first.saturating_add(times);
+        let last = end.min(message.len());
+        message
+            .get_mut(first..last)
+            .unwrap_or(&mut [])
+            .fill(pair(high, low));
+        return end;
+    }
+    if hex.len() < 2 {
+        return first;
+    }
     let mut n = first;
     for _ in 0..times {
         n = once(hex, message, n);
