@@ -41,8 +41,8 @@ fn alone<F: Fn(usize) -> Option<usize>>(
     ensures { RunMeets result message.now lent bracket most start first (ancestry_of ancestry) rows.old rows.new }
 {
     let mut at = start;
-    let mut row = first;
     for count in 0..most {
+        let row = first + count;
         if lent <= row {
             return Members { at, row, count };
         }
@@ -61,11 +61,10 @@ fn alone<F: Fn(usize) -> Option<usize>>(
             ancestry,
         );
         at = next;
-        row += 1;
     }
     Members {
         at,
-        row,
+        row: first + most,
         count: most,
     }
 }
