@@ -67,6 +67,19 @@ module _ (m ws : List ℕ) (stop key : ℕ) where
       go (done x) f true w e = last x f (ltb x stop) refl w e
       go (done x) f false w e = let z : ◌≡◌ {A = ℕ} 0 1 = cc in absurd (omega arith)
 
+  pub member_refused : (n : ℕ) → member_of m ws stop key ≡ fault n 0 → n ≡ rows_dont_fit
+  unfolding member_of tested guard ◌>>◌ ◌>>=◌
+  member_refused n e = go (along ws is_key stop key) refl (within (length m) (row_at ws key).payload (row_at ws key).extent) e
+    where
+      last : (x : ℕ) (b : Bool) → (guard b rows_dont_fit 0 >> done x) ≡ fault n 0 → n ≡ rows_dont_fit
+      last x true e = let z : ◌≡◌ {A = ℕ} 0 1 = cc in absurd (omega arith)
+      last x false e = cc
+
+      go : (o : Outcome ℕ) → along ws is_key stop key ≡ o → (a : Bool) → tested o a ≡ fault n 0 → n ≡ rows_dont_fit
+      go (fault k p) f a e = let q : fault k p ≡ fault n 0 = e in Along.refused ws is_key stop key n (f ∙ q)
+      go (done x) f true e = last x (ltb x stop) e
+      go (done x) f false e = cc
+
 -- ---- the members
 
 module _ (m ws name : List ℕ) where

@@ -79,6 +79,13 @@ module _ (ws : List ℕ) (fits : Row → Bool) (stop row : ℕ) where
       go o (follows {next = n} f) e = let q : n ≡ next = cc in subst Followed q f
       go o stuck e = let z : ◌≡◌ {A = ℕ} 0 1 = cc in absurd (omega arith)
 
+  pub refused : (n : ℕ) → along ws fits stop row ≡ fault n 0 → n ≡ rows_dont_fit
+  refused n e = go (along ws fits stop row) walked e
+    where
+      go : (o : Outcome ℕ) → Walked o → o ≡ fault n 0 → n ≡ rows_dont_fit
+      go o (follows f) e = let z : ◌≡◌ {A = ℕ} 0 1 = cc in absurd (omega arith)
+      go o stuck e = cc
+
   -- the same, by what the code answered
   pub went : {r : Result ℕ Refusal} → found r ≡ along ws fits stop row → (next : ℕ) → r ≡ Ok next → Followed next
   went e next q = followed next (sym e ∙ ap found q)
