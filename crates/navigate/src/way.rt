@@ -28,7 +28,9 @@ pub struct Way {
 
 impl Way {
     // The way to a table's schema, which no member holds.
-    pub fn new() -> Way {
+    pub fn new() -> Way
+        ensures { result.depth ≤ 16 }
+    {
         Way {
             room: [Member { row: 0, place: 0 }; 16],
             depth: 0,
@@ -70,7 +72,9 @@ impl Way {
     }
 
     // Goes on to the next row of the schema, which is a key or a member.
-    fn step(&mut self, rows: &[u32], row: usize) {
+    fn step(&mut self, rows: &[u32], row: usize)
+        ensures { self.old.depth ≤ 16 → self.new.depth ≤ 16 }
+    {
         let depth = self.holding(rows, row);
         if is_key(load(rows, row)) {
             self.depth = depth;
@@ -84,7 +88,9 @@ impl Way {
     }
 
     // The way to a row of a table's schema, or to the schema's last row.
-    pub fn to(rows: &[u32], table: usize, row: usize) -> Way {
+    pub fn to(rows: &[u32], table: usize, row: usize) -> Way
+        ensures { result.depth ≤ 16 }
+    {
         let end = row.saturating_add(1).min(schema_end(rows, table));
         let mut way = Way::new();
         for r in table.saturating_add(2)..end {
@@ -108,6 +114,7 @@ pub struct Leaves<'a> {
     next: usize,
     end: usize,
     way: Way,
+    ghost inside: { way.depth ≤ 16 },
 }
 
 impl<'a> Leaves<'a> {

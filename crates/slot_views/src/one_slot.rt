@@ -38,7 +38,9 @@ fn value(message: &[u8], few: &[u32; 130], indexes: &[usize], out: &mut Block) {
 
 impl Slot {
     // The slot of an element or a record by its number.
-    pub fn of_number(rows: &[u32], row: usize, way: Way, number: usize) -> Slot {
+    pub fn of_number(rows: &[u32], row: usize, way: Way, number: usize) -> Slot
+        ensures { result.way ≡ way }
+    {
         Slot {
             row,
             way,
