@@ -1,6 +1,6 @@
 -- Bytes put one after another: in pieces, byte by byte, and digit by digit. Assumes nothing.
 use Prim.Native.Nat.{ℕ, zero, suc, ◌+◌, ◌/◌, ◌%◌, ◌≤◌, ◌<◌}
-use mathlib.Core.Path.{◌≡◌, refl, ap, ◌∙◌}
+use mathlib.Core.Path.{◌≡◌, refl, sym, ap, ◌∙◌}
 use mathlib.Core.Bool.{Bool, true, false}
 use mathlib.Core.List.{List, [], ◌∷◌, ◌++◌}
 use native.Mathlib.Omega.{arith}
@@ -107,6 +107,21 @@ module _ (n : ℕ) (bytes : List ℕ) (low : bytes ≡ to_le_bytes w32 n) where
       let fourth : n / 16777216 % 256 ≡ n / 256 / 256 / 256 % 256 = omega arith in
       rw (low, third, fourth)
   low_digits (suc (suc (suc (suc (suc k))))) h = absurd (omega arith)
+
+  -- those that are put under `U`, `u` and `m`
+  pub one_digit : take 1 bytes ≡ digits (width 'U') n
+  unfolding width among when◌then◌else◌
+  one_digit = low_digits 1 (omega arith)
+
+  pub two_digits : take 2 bytes ≡ digits (width 'u') n
+  unfolding width among when◌then◌else◌
+  two_digits = low_digits 2 (omega arith)
+
+  pub four_digits : bytes ≡ digits (width 'm') n
+  unfolding width among when◌then◌else◌
+  four_digits =
+      let few : length bytes ≤ 4 = rw low (omega arith) in
+      sym (take_all 4 bytes few) ∙ low_digits 4 (omega arith)
 
 -- a number under the smallest mark
 pub integer_puts : {l l' : List ℕ} {at next : ℕ} (n mark : ℕ) → smallest n ≡ mark → Puts l l' at next (mark ∷ digits (width mark) n) → Puts l l' at next (small_integer n)
